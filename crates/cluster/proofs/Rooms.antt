@@ -15,8 +15,7 @@ abbrev pub cluster_room : ℕ → ℕ
 cluster_room w = up 8 (up 8 (32 + dep_room w) + 104)
 
 abbrev pub scratch_room : ℕ → ℕ
-scratch_room w =
-    up 8 (up 8 (0 + up 8 (up 8 (up 8 (up 8 (up 8 (up 8 (0 + up 8 (0 + w * 8)) + up 8 (0 + w * 8)) + up 8 (0 + w * 8)) + 24) + 24) + 24)) + 32)
+scratch_room w = up 8 (32 + up 8 (up 8 (up 8 (72 + up 8 (0 + w * 8)) + up 8 (0 + w * 8)) + up 8 (0 + w * 8)))
 
 pub dep_in_cluster : (w : ℕ) → cluster_room w < 9223372036854775808 → dep_room w < 9223372036854775808
 dep_in_cluster w fits = field (dep_room w) fits
@@ -66,11 +65,11 @@ dep_fits w narrow =
 pub scratch_fits : (w : ℕ) → w ≤ 64 → scratch_room w < 9223372036854775808
 scratch_fits w narrow = small (up 8 (0 + w * 8)) (padded (0 + w * 8) 512 (omega (arith, narrow)))
   where
-    small : (x : ℕ) → x ≤ 520 → up 8 (up 8 (0 + up 8 (up 8 (up 8 (up 8 (up 8 (up 8 (0 + x) + x) + x) + 24) + 24) + 24)) + 32) < 9223372036854775808
+    small : (x : ℕ) → x ≤ 520 → up 8 (32 + up 8 (up 8 (up 8 (72 + x) + x) + x)) < 9223372036854775808
     small x low = omega arith
 
 abbrev pub room_room : ℕ → ℕ
-room_room w = up 8 (up 8 (up 8 (up 8 (up 8 (0 + scratch_room w) + 144) + 24) + 24) + 24)
+room_room w = up 8 (216 + scratch_room w)
 
 -- a cluster's graph and lists, and the room in which orders are made
 pub cluster_fits : (w : ℕ) → w ≤ 64 → cluster_room w < 9223372036854775808
@@ -104,8 +103,8 @@ cluster_fits w narrow =
 pub room_fits : (w : ℕ) → w ≤ 64 → room_room w < 9223372036854775808
 room_fits w narrow = whole (scratch_room w) (small (up 8 (0 + w * 8)) (padded (0 + w * 8) 512 (omega (arith, narrow))))
   where
-    small : (x : ℕ) → x ≤ 520 → up 8 (up 8 (0 + up 8 (up 8 (up 8 (up 8 (up 8 (up 8 (0 + x) + x) + x) + 24) + 24) + 24)) + 32) ≤ 2000
+    small : (x : ℕ) → x ≤ 520 → up 8 (32 + up 8 (up 8 (up 8 (72 + x) + x) + x)) ≤ 2000
     small x low = omega arith
 
-    whole : (s : ℕ) → s ≤ 2000 → up 8 (up 8 (up 8 (up 8 (up 8 (0 + s) + 144) + 24) + 24) + 24) < 9223372036854775808
+    whole : (s : ℕ) → s ≤ 2000 → up 8 (216 + s) < 9223372036854775808
     whole s low = omega arith

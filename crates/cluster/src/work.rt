@@ -42,14 +42,15 @@ impl<const W: usize> Work<W> {
 /// The solver's room, and that in which what it has made is read.
 #[derive(Drop)]
 pub(crate) struct Room<const W: usize> {
-    pub(crate) scratch: Scratch<W>,
-    pub(crate) linear: Linear<W>,
-    // which of its parts are old ones
+    // which of the parts in `linear` are old ones
     pub(crate) froms: Vec<Option<OldPart>>,
     // where each place stands in the solver's order
     pub(crate) positions: Vec<usize>,
     // the flows of a part, by these positions
     pub(crate) flows: Vec<PlaceFlow>,
+    pub(crate) linear: Linear<W>,
+    // last, since its size goes by W
+    pub(crate) scratch: Scratch<W>,
 }
 
 // Clauses see how many names there is room for.

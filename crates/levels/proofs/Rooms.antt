@@ -13,8 +13,7 @@ exchange_fits = two_cases (λ w. up 8 (8 + cluster_room w) < 9223372036854775808
 
 abbrev pub work_room : ℕ → ℕ
 work_room w =
-    up 8 (72 + up 8 (up 8 (up 8 (up 8 (up 8 (0 + up 8 (up 8 (0 + up 8 (up 8 (up 8 (up 8 (up 8 (up 8 (0 + up 8 (0 + w * 8)) + up 8 (0 + w * 8)) + up 8 (0 + w * 8))
-    + 24) + 24) + 24)) + 32)) + 144) + 24) + 24) + 24))
+    up 8 (72 + up 8 (216 + up 8 (32 + up 8 (up 8 (up 8 (72 + up 8 (0 + w * 8)) + up 8 (0 + w * 8)) + up 8 (0 + w * 8)))))
 
 pub work_fits : (w : ℕ) → w ≤ 2 → work_room w < 9223372036854775808
 work_fits = two_cases (λ w. work_room w < 9223372036854775808) (omega arith) (omega arith) (omega arith)

@@ -3,10 +3,9 @@ use Prim.Native.Nat.{max}
 use Rattle.std.proofs.Common.{ℕ, zero, suc, ◌+◌, ◌*◌, ◌^◌, ◌<◌, ◌≤◌, arith, lit<}
 use prog.Memory.{up}
 
--- three sets, three lists and a queue
+-- a queue, three lists and three sets
 abbrev pub scratch_room : ℕ → ℕ
-scratch_room w =
-    up 8 (up 8 (0 + up 8 (up 8 (up 8 (up 8 (up 8 (up 8 (0 + up 8 (0 + w * 8)) + up 8 (0 + w * 8)) + up 8 (0 + w * 8)) + 24) + 24) + 24)) + 32)
+scratch_room w = up 8 (32 + up 8 (up 8 (up 8 (72 + up 8 (0 + w * 8)) + up 8 (0 + w * 8)) + up 8 (0 + w * 8)))
 
 pub scratch_fits : (w : ℕ) → w ≤ 2 → scratch_room w < 2 ^ 63
 scratch_fits zero few = lit< tt
@@ -26,7 +25,7 @@ cluster_fits (suc (suc zero)) few = lit< tt
 cluster_fits (suc (suc (suc w))) few = absurd (omega (arith, few))
 
 abbrev pub work_room : ℕ → ℕ
-work_room w = up 8 (72 + up 8 (up 8 (up 8 (up 8 (up 8 (0 + scratch_room w) + 144) + 24) + 24) + 24))
+work_room w = up 8 (72 + up 8 (216 + scratch_room w))
 
 pub work_fits : (w : ℕ) → w ≤ 2 → work_room w < 2 ^ 63
 work_fits zero few = lit< tt
@@ -53,8 +52,8 @@ graph_fits (suc zero) few = lit< tt
 graph_fits (suc (suc zero)) few = lit< tt
 graph_fits (suc (suc (suc w))) few = absurd (omega (arith, few))
 
--- a scratch, and an order of six lists
-pub order_room_fits : (w : ℕ) → w ≤ 2 → up 8 (up 8 (0 + scratch_room w) + 144) < 2 ^ 63
+-- an order of six lists, and a scratch
+pub order_room_fits : (w : ℕ) → w ≤ 2 → up 8 (144 + scratch_room w) < 2 ^ 63
 order_room_fits zero few = lit< tt
 order_room_fits (suc zero) few = lit< tt
 order_room_fits (suc (suc zero)) few = lit< tt

@@ -16,8 +16,8 @@ use step_count::{Counted, Ledger, Steps};
 #[derive(Drop)]
 pub(crate) struct Room<const W: usize> {
     pub(crate) alloc: Global,
-    pub(crate) scratch: Scratch<W>,
     pub(crate) out: Linear<W>,
+    pub(crate) scratch: Scratch<W>,
 }
 
 // Leaves an optimal order of a graph. This and the next function have no clause, since callers would pay for it in their

@@ -6,8 +6,7 @@ use Rattle.std.proofs.Common.{rules, ℕ, zero, suc, ◌+◌, ◌*◌, ◌<◌, 
 -- how many bytes a graph takes that has so many words a set of names
 abbrev pub graph_room : ℕ → ℕ
 graph_room w =
-    up 8 (32 + up 8 (840 + up 8 (72 + up 8 (up 8 (up 8 (up 8 (up 8 (0 + up 8 (up 8 (0 + up 8 (up 8 (up 8 (up 8 (up 8 (up 8 (0 + up 8 (0 + w * 8)) + up 8 (0 + w * 8))
-    + up 8 (0 + w * 8)) + 24) + 24) + 24)) + 32)) + 144) + 24) + 24) + 24))))
+    up 8 (32 + up 8 (840 + up 8 (72 + up 8 (216 + up 8 (32 + up 8 (up 8 (up 8 (72 + up 8 (0 + w * 8)) + up 8 (0 + w * 8)) + up 8 (0 + w * 8)))))))
 
 -- and one cluster with its tag
 abbrev pub stored_room : ℕ → ℕ
