@@ -189,7 +189,7 @@ module _ (slots : Slots) (items : Items) (shown : IsShown slots items) where
 
   holds : (i : Entry × Tag) → held_at_entry slots i.0 ≡ held_at (shelved slots) (place_of i)
   holds i =
-      ap (λ (o : Option Stored). record { shown = record { number = i.0.serial; part = part_in o i.0.position }; cluster = cluster_in o })
+      ap (λ (o : Option Stored). record { part = part_in o i.0.position; cluster = cluster_in o })
       (sym (get_shelved slots i.0.serial))
 
   -- what is shown of each entry is what is shown of its place

@@ -4,14 +4,13 @@ ghost use Rattle.cluster_store.specs.Stores.{Stored as Kept};
 ghost use Rattle.cluster_store.specs.Walks.{parts_at};
 
 use crate::stored::Stored;
-use crate::walk::ShownPart;
 use chunk_index::{Entry, IndexWalk};
-use cluster::Cluster;
+use cluster::{Cluster, PartRef};
 use slab::Slab;
 use std::marker::Model;
 
 /// A walk over parts of the clusters of a store, in their order. Contracts see the parts that are still to come, each with its
-/// cluster and the number of it.
+/// cluster.
 #[derive(Drop)]
 pub struct HeldWalk<'a, const W: usize> {
     slots: &'a Slab<Stored<W>>,
@@ -46,7 +45,7 @@ impl<'a, const W: usize> HeldWalk<'a, W> {
 fn held<'a, const W: usize>(
     slots: &'a Slab<Stored<W>>,
     entry: Entry,
-) -> (ShownPart<'a>, &'a Cluster<W>)
+) -> (PartRef<'a>, &'a Cluster<W>)
     requires { entry.position < length (parts_at (λ (s : Kept). s.cluster.parts) slots.now.slots entry) }
     ensures { held_part result ≡ held_at_entry slots.now.slots entry }
 {
@@ -54,15 +53,14 @@ fn held<'a, const W: usize>(
     match slots.get(number) {
         Some(stored) => {
             let cluster = stored.cluster();
-            let part = cluster.part(entry.position);
-            (ShownPart { number, part }, cluster)
+            (cluster.part(entry.position), cluster)
         }
         None => unreachable!(),
     }
 }
 
 impl<'a, const W: usize> Iterator for HeldWalk<'a, W> {
-    type Item = (ShownPart<'a>, &'a Cluster<W>);
+    type Item = (PartRef<'a>, &'a Cluster<W>);
 
     ghost use Rattle.std.specs.Iterator.{YieldsFirstBy, item_count};
 
@@ -70,7 +68,7 @@ impl<'a, const W: usize> Iterator for HeldWalk<'a, W> {
 
     ghost remaining = { item_count (λ rest. rest) };
 
-    fn next(&mut self) -> Option<(ShownPart<'a>, &'a Cluster<W>)> {
+    fn next(&mut self) -> Option<(PartRef<'a>, &'a Cluster<W>)> {
         let entry = self.entries.next()?;
         Some(held(self.slots, entry))
     }

@@ -108,16 +108,6 @@ impl<const W: usize> ClusterStore<W> {
         HeldWalk::new(&self.slots, self.index.walk(level))
     }
 
-    /// The parts of the clusters of one tag, in the same order. Takes no memory.
-    ///
-    /// Of main alone, no other part is looked at, nor of staging alone while all of its parts came so.
-    pub fn walk_only(&self, tag: Tag) -> PartWalk<'_, Stored<W>>
-        ensures parts { result ≡ shown_only tag self.now }
-        ensures order { IsOrdered self.now.clusters self.now.order }
-    {
-        PartWalk::new(&self.slots, self.index.walk_only(tag))
-    }
-
     /// The fees and sizes of the parts of a level, in the same order. Takes no memory, and looks at no cluster.
     pub fn rates(&self, level: Level) -> RateWalk<'_>
         ensures { result ≡ map (λ s. s.part.rate) (shown_in level self.now) }

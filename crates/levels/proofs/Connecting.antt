@@ -1,5 +1,5 @@
 -- A name of the top level became a parent of another: what the levels see of it, and what is kept of them.
-use Rattle.std.proofs.Common.{◌≡◌, ◌≢◌, ◌≤◌, ℕ, ◌*◌, ◌&&◌, ◌||◌, Bool, true, false, cond, Option, Some, None, is_some, inl, inr, refl, sym, ap, arith, ◌∙◌, subst, subst₂, ◌⊎◌, Result, Ok, Err, OnOk, OnErr, MatchResult}
+use Rattle.std.proofs.Common.{IfErr, ◌≡◌, ◌≢◌, ◌≤◌, ℕ, ◌*◌, ◌&&◌, ◌||◌, Bool, true, false, cond, Option, Some, None, is_some, inl, inr, refl, sym, ap, arith, ◌∙◌, subst, subst₂, ◌⊎◌, Result, Ok, Err, OnOk, OnErr, MatchResult}
 use Rattle.std.specs.Result.{IsErrAnd}
 use Rattle.std.proofs.lemmas.Bool.{or_cases, or_left, and_parts}
 use Rattle.std.specs.FinMap as finmap
@@ -143,6 +143,11 @@ module _ (w mains tops issued : ℕ) (old new : Shelf) (before after : Ringed) (
   kept_on (Err e) order right parent child connects fewer err = kept_same err.0 err.1
 
 -- ---- no pair is refused for want of memory by its row
+
+-- what holds of every error
+pub every_error : {T E : Type 0} {Holds : E → Type 0} (result : Result T E) → ((why : E) → Holds why) → IfErr result Holds
+every_error (Ok x) all = tt
+every_error (Err e) all = all e
 
 first_lacks : {C L : Type 0} (why : Refusal) → (Some Memory ≡ Some why → ⊥) → (L → ⊥) → (C × (Some Memory ≡ Some why)) ⊎ ((C → ⊥) × L) → ⊥
 first_lacks why other more row = elim row [ inl here ↦ other here.1 | inr on ↦ more on.1 ]

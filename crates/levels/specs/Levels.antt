@@ -1,11 +1,13 @@
 -- The levels of a graph: main, and staging where there is one.
-use Rattle.std.specs.Prelude.{◌≡◌, ◌≢◌, ◌⊎◌, ◌↔◌, ℕ, ℤ, ◌+◌, Bool, true, false, ◌&&◌, ◌||◌, cond, nat_eq, [], List, length, map, Contains, Option, None, Some, IfSome, is_some, refl}
+use Rattle.std.specs.Prelude.{◌≡◌, ◌≢◌, ◌⊎◌, ◌↔◌, ℕ, ℤ, ◌+◌, ◌-◌, ◌^◌, ◌<◌, Bool, true, false, ◌&&◌, ◌||◌, cond, nat_eq, [], List, length, map, Contains, Option, None, Some, IfSome, is_some, refl}
 use Rattle.std.specs.Coded.{Coded, code_by, coded×, coded_list, coded_option, coded_ℕ}
 use Rattle.std.specs.FinMap as finmap
 use Rattle.graphs.specs.declared.names.Level.{Level}
 use Rattle.graphs.specs.declared.names.Level.TheVariants.{Main, Top}
 use Rattle.graphs.specs.Closures.{Closure, closure_code, is_member, is_ancestor, rate_of, AreLinked, SetsFee}
 use Rattle.fee_rate.specs.declared.rates.FeeRate.{FeeRate}
+use Rattle.fee_rate.specs.declared.limits.TheConstants.{MAX_TOTAL}
+use Rattle.fee_rate.specs.Limits.{IsRate}
 use Rattle.graphs.specs.Closing.{IsClosureOf}
 use Rattle.graphs.specs.Certificates.{Part}
 use Rattle.graphs.specs.Graphs.{Graph, Lists}
@@ -57,6 +59,14 @@ ChangesTop Changes old new = (top : OneLevel) × Changes (level_at old Top).grap
 -- the name is in main or in staging
 abbrev pub IsLive : Levels → ℕ → Type 0
 IsLive levels id = (is_member levels.main.graph id ≡ true) ⊎ (is_member (level_at levels Top).graph id ≡ true)
+
+-- A name may come, with this fee and size: it is in neither level, the fee and the size are in range, fewer names are live than may be, and
+-- fewer were added so far than can be counted.
+pub record MayCome (levels : Levels) (id : ℕ) (rate : FeeRate) : Type 0 where
+  pub absent : IsLive levels id → ⊥
+  pub in_range : IsRate rate
+  pub few : (ids : List ℕ) × Lists (IsLive levels) ids × (length ids < MAX_TOTAL)
+  pub issued : levels.issued < 2 ^ 64 - 1
 
 -- The parts of a level are a pick of it, and none of them can be cut further.
 pub record HasPick (level : OneLevel) : Type 0 where

@@ -4,7 +4,7 @@ use Rattle.graphs.specs.declared.names.Level.{Level}
 use Rattle.graphs.specs.Certificates.{Part}
 use Rattle.graphs.specs.Closures.{Closure, is_member, is_ancestor, rate_of, AreLinked}
 use Rattle.graphs.specs.Merges.{Precedes}
-use Rattle.levels.specs.Levels.{Levels, level_at}
+use Rattle.levels.specs.Levels.{HavePicks, Levels, level_at}
 
 -- These names are a component of a graph: they are its members, linked to each other and to no other name.
 pub record IsComponent (graph : Closure) (ids : List ℕ) : Type 0 where
@@ -34,3 +34,8 @@ pub record KeepsComponents (old : Closure) (before : List Part) (new : Closure) 
 abbrev pub AllStay : Levels → Levels → Type 0
 AllStay old new =
     (level : Level) → KeepsComponents (level_at old level).graph (level_at old level).parts (level_at new level).graph (level_at new level).parts
+
+-- What every change of the levels keeps: the parts of each level are a pick of it that can't be cut further, and the components that the change
+-- leaves as they are keep their parts and flows, in their order.
+abbrev pub KeepsPicks : Levels → Levels → Type 0
+KeepsPicks old new = HavePicks new × AllStay old new

@@ -15,12 +15,12 @@ ghost use Rattle.cluster_store.specs.Lent.{lent};
 ghost use Rattle.diagram.specs.Parts.{AreLevelParts, YieldsParts};
 ghost use Rattle.levels.specs.Held.{IsHeldIn};
 ghost use Rattle.levels.specs.Orders.{ComparesParts, ListsCovers, sums_of};
-ghost use Rattle.levels.specs.Levels.{AddsName, ChangesTop, GrowsForFee, HavePicks, IsBest, IsLive, LosesNames, SetsFeeIn, level_at, no_names};
+ghost use Rattle.levels.specs.Levels.{AddsName, ChangesTop, GrowsForFee, IsBest, IsLive, LosesNames, MayCome, SetsFeeIn, level_at, no_names};
 ghost use Rattle.levels.specs.Joins.{DepRefusalIs};
 ghost use Rattle.levels.specs.Lefts.{DropsWithin};
 ghost use Rattle.levels.specs.Levels as specs_levels;
 ghost use Rattle.levels.specs.Mining.{MineRefusalIs};
-ghost use Rattle.levels.specs.Stays.{AllStay};
+ghost use Rattle.levels.specs.Stays.{KeepsPicks};
 ghost use Rattle.graphs.specs.declared.names.Level as graph_level;
 ghost use Rattle.levels.specs.Views.{HaveClusterNumbers, IsClusterOf};
 
@@ -153,14 +153,10 @@ impl<const W: usize> Levels<W> {
         size: u64,
         steps: &mut Steps<L>,
     ) -> Result<(), NoMemory>
-        requires absent { IsLive self.old id → ⊥ }
-        requires rate { IsRate (record { fee = fee; size = size }) }
-        requires few { (ids : List ℕ) × Lists (IsLive self.old) ids × (length ids < MAX_TOTAL) }
-        requires issued { self.old.issued < 2 ^ 64 - 1 }
+        requires { MayCome self.old id (record { fee = fee; size = size }) }
         ensures added { OnOk result ((new : specs_levels.Levels) × ChangesTop (λ old new. AddsName old new id
             (record { fee = fee; size = size })) self.old new × (self.new ≡ record new { issued = self.old.issued + 1 })) }
-        ensures picks { HavePicks self.new }
-        ensures stays { AllStay self.old self.new }
+        ensures kept { KeepsPicks self.old self.new }
         ensures err { OnErr result (self.new ≡ self.old) }
         ensures steps { steps.new ≡ steps.old }
     {
@@ -196,11 +192,9 @@ impl<const W: usize> Levels<W> {
             (λ why. ((why ≡ Memory) × DepRefusalIs limits.now (level_at self.old Top).graph parent child None)
             ⊎ ((why ≢ Memory) × DepRefusalIs limits.now (level_at self.old Top).graph parent child (Some why))) }
         ensures linked { OnOk result (ChangesTop (λ old new. AddsPair old new parent child) self.old self.new) }
-        ensures still { is_ancestor (level_at self.old Top).graph parent child ≡ true → (self.new ≡ self.old) × (steps.new ≡ steps.old) }
-        ensures picks { HavePicks self.new }
-        ensures stays { AllStay self.old self.new }
-        ensures err { OnErr result (self.new ≡ self.old) }
-        ensures refused { IfErr result (λ why. why ≢ Memory → steps.new ≡ steps.old) }
+        ensures same { IfErr result (λ why. (self.new ≡ self.old) × (why ≢ Memory → steps.new ≡ steps.old))
+            × (is_ancestor (level_at self.old Top).graph parent child ≡ true → (self.new ≡ self.old) × (steps.new ≡ steps.old)) }
+        ensures kept { KeepsPicks self.old self.new }
         ensures steps { (ids : List ℕ)
             → Lists (λ q. AreLinked (level_at self.old Top).graph q parent ⊎ AreLinked (level_at self.old Top).graph q child) ids
             → GrowsWithin (most_steps (length ids)) steps.old steps.new }
@@ -235,8 +229,7 @@ impl<const W: usize> Levels<W> {
         ensures fee { OnOk result (SetsFeeIn id fee self.old self.new) }
         ensures still { ((level : graph_level.Level) → is_member (level_at self.old level).graph id ≡ true
             → (rate_of (level_at self.old level).graph id).fee ≡ fee) → (self.new ≡ self.old) × (steps.new ≡ steps.old) }
-        ensures picks { HavePicks self.new }
-        ensures stays { AllStay self.old self.new }
+        ensures kept { KeepsPicks self.old self.new }
         ensures err { OnErr result (self.new ≡ self.old) }
         ensures grew { steps.old ≤ steps.new }
         ensures steps { GrowsForFee id steps.old steps.new self.old }
@@ -249,8 +242,7 @@ impl<const W: usize> Levels<W> {
     pub fn remove<L: Ledger>(&mut self, id: TxId, steps: &mut Steps<L>) -> Result<(), NoMemory>
         requires { is_member (level_at self.old Top).graph id ≡ true }
         ensures dropped { OnOk result (ChangesTop (λ old new. DropsPlace old new id) self.old self.new) }
-        ensures picks { HavePicks self.new }
-        ensures stays { AllStay self.old self.new }
+        ensures kept { KeepsPicks self.old self.new }
         ensures err { OnErr result (self.new ≡ self.old) }
         ensures steps { DropsWithin (id ∷ []) (level_at self.old Top).graph steps.old steps.new }
     {
@@ -267,8 +259,7 @@ impl<const W: usize> Levels<W> {
         requires live { (id : ℕ) → Contains ids.now id → is_member (level_at self.old Top).graph id ≡ true }
         requires once { AreDistinct ids.now }
         ensures dropped { OnOk result (ChangesTop (λ old new. LosesNames old new ids.now) self.old self.new) }
-        ensures picks { HavePicks self.new }
-        ensures stays { AllStay self.old self.new }
+        ensures kept { KeepsPicks self.old self.new }
         ensures err { OnErr result (self.new ≡ self.old) }
         ensures steps { DropsWithin ids.now (level_at self.old Top).graph steps.old steps.new }
     {
@@ -343,7 +334,7 @@ impl<const W: usize> Levels<W> {
 
     /// The same parts, each with its cluster. Takes no memory.
     pub fn held(&self, level: Level) -> HeldWalk<'_, W>
-        ensures parts { map (λ h. h.shown.part) result ≡ (level_at self.now level).parts }
+        ensures parts { map (λ h. h.part) result ≡ (level_at self.now level).parts }
         ensures clusters { (h : Held) → Contains result h → IsHeldIn (level_at self.now level) h }
     {
         let _count = self.mains;

@@ -45,7 +45,7 @@ impl<const W: usize> Shelves<W> {
     /// The same parts, each with its cluster.
     pub(crate) fn held(&self, level: Level) -> HeldWalk<'_, W>
         requires order { IsInOrder W self.now }
-        ensures parts { map (λ h. h.shown.part) result ≡ (one_of level self.now).parts }
+        ensures parts { map (λ h. h.part) result ≡ (one_of level self.now).parts }
         ensures clusters { (h : Held) → Contains result h → IsHeldIn (one_of level self.now) h }
     {
         self.store().walk_held(level)

@@ -194,8 +194,8 @@ fn more_all_txs<const W: usize, K: Sink>(
         (map (tx_line_of (level_at graph.now.levels level).graph) (order_of (level_at graph.now.levels level).parts)) }
 {
     let mut so_far = so_far;
-    for (shown, cluster) in graph.held(level) {
-        so_far = more_txs(so_far, cluster, shown.part.ids, sink);
+    for (part, cluster) in graph.held(level) {
+        so_far = more_txs(so_far, cluster, part.ids, sink);
     }
     so_far
 }
@@ -250,8 +250,8 @@ fn more_all_edges<const W: usize, K: Sink>(
         (edges_lines edges) }
 {
     let mut so_far = so_far;
-    for (shown, cluster) in graph.held(level) {
-        so_far = more_edges(so_far, cluster, shown.part.ids, sink);
+    for (part, cluster) in graph.held(level) {
+        so_far = more_edges(so_far, cluster, part.ids, sink);
     }
     so_far
 }

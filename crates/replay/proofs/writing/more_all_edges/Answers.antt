@@ -8,7 +8,7 @@ use Rattle.graph_model.specs.Answers.{order_of}
 use Rattle.graph_model.specs.Texts.{edge_line}
 use Rattle.cluster.specs.Covers.{ListsInOrder}
 use Rattle.cluster.specs.Clusters.{Cluster}
-use Rattle.cluster_store.specs.declared.walk.ShownPart.{ShownPart}
+use Rattle.cluster.specs.declared.cluster.PartRef.{PartRef}
 use Rattle.cluster_store.specs.Held.{Held, held_part}
 use Rattle.levels.specs.Held.{IsHeldIn}
 use Rattle.levels.specs.Levels.{level_at}
@@ -21,33 +21,33 @@ use Rattle.replay.proofs.YieldedLemmas.{gave_all}
 use Rattle.replay.proofs.writing.more_all_edges.Goals as goal
 
 -- that a graph and its clusters fit in memory is asked of the caller too
-pub held-shown-items-requires : goal.held-shown-items-requires
-held-shown-items-requires g c = (assumption, search rules)
+pub held-part-items-requires : goal.held-part-items-requires
+held-part-items-requires g c = (assumption, search rules)
 
 pub more_edges-so_far-requires : goal.more_edges-so_far-requires
 more_edges-so_far-requires g c = (
   cluster_fits g.row.W assumption,
-  let x = held_part (c.in-Some.shown, c.in-Some.cluster) in
-      (c.loop-shown.invariant.held x (subst (λ (hs : List Held). Contains hs x) (sym c.in-Some.ensures.steps) (Contains-head x c.next.new.self))).names,
+  let x = held_part (c.in-Some.part, c.in-Some.cluster) in
+      (c.loop-part.invariant.held x (subst (λ (hs : List Held). Contains hs x) (sym c.in-Some.ensures.steps) (Contains-head x c.next.new.self))).names,
 )
 
-pub loop-shown-init : goal.loop-shown-init
-loop-shown-init g c = record {
-  rest = sym (ap (map (λ (h : Held). h.shown.part)) c.into_iter-shown-iterator.ensures.into_iter_gives ∙ c.held-shown-items.ensures.parts);
-  held = λ h here. c.held-shown-items.ensures.clusters h (subst (λ (hs : List Held). Contains hs h) c.into_iter-shown-iterator.ensures.into_iter_gives here);
+pub loop-part-init : goal.loop-part-init
+loop-part-init g c = record {
+  rest = sym (ap (map (λ (h : Held). h.part)) c.into_iter-part-iterator.ensures.into_iter_gives ∙ c.held-part-items.ensures.parts);
+  held = λ h here. c.held-part-items.ensures.clusters h (subst (λ (hs : List Held). Contains hs h) c.into_iter-part-iterator.ensures.into_iter_gives here);
   out = ([], refl, no_lines c.args.so_far (g.K.Sink.written c.args.sink.now) (g.K.Sink.faults c.args.sink.now));
 }
 
-pub loop-shown-preserved : goal.loop-shown-preserved
-loop-shown-preserved g c =
+pub loop-part-preserved : goal.loop-part-preserved
+loop-part-preserved g c =
     let level = level_at c.args.graph.now.levels c.args.level in
     let order = order_of level.parts in
-    let part : ShownPart × Bor Cluster → Part = λ x. (held_part x).shown.part in
-    let x : ShownPart × Bor Cluster = (c.in-Some.shown, c.in-Some.cluster) in
-    let before = order_of (map part c.loop-shown.yielded) in
-    let ids = c.in-Some.shown.part.ids.now in
+    let part : PartRef × Bor Cluster → Part = λ x. (held_part x).part in
+    let x : PartRef × Bor Cluster = (c.in-Some.part, c.in-Some.cluster) in
+    let before = order_of (map part c.loop-part.yielded) in
+    let ids = c.in-Some.part.ids.now in
     let cluster = c.in-Some.cluster.now in
-    let was = c.loop-shown.invariant in
+    let was = c.loop-part.invariant in
     let step = c.in-Some.ensures.steps in
     let is : IsHeldIn level (held_part x) =
     was.held (held_part x) (subst (λ (hs : List Held). Contains hs (held_part x)) (sym step) (Contains-head (held_part x) c.next.new.self)) in
@@ -57,13 +57,13 @@ loop-shown-preserved g c =
     each_other (λ child parents. ListsInOrder (λ a. IsCover cluster.graph a child) (flat_map (λ p. p.ids) cluster.parts) parents)
     (ListsCovers level.graph order) ids own (λ child parents here listed. is.covers child parents (is.names child here) listed) each in
     record {
-      rest = rest_on part level.parts c.loop-shown.yielded (map (λ (h : Held). h.shown.part) c.loop-shown.shown-iterator)
-          (map (λ (h : Held). h.shown.part) c.next.new.self) x was.rest (ap (map (λ (h : Held). h.shown.part)) step);
+      rest = rest_on part level.parts c.loop-part.yielded (map (λ (h : Held). h.part) c.loop-part.part-iterator)
+          (map (λ (h : Held). h.part) c.next.new.self) x was.rest (ap (map (λ (h : Held). h.part)) step);
       held = λ h here. was.held h (subst (λ (hs : List Held). Contains hs h) (sym step) (Contains-later (held_part x) h c.next.new.self here));
       out = (
         edges ++ own,
         subst (λ (ids : List ℕ). ListsEach level.graph order ids (edges ++ own))
-            (sym (flat_map_push (λ (p : Part). p.ids) part c.loop-shown.yielded x)) (each_append (ListsCovers level.graph order) before ids edges own had told),
+            (sym (flat_map_push (λ (p : Part). p.ids) part c.loop-part.yielded x)) (each_append (ListsCovers level.graph order) before ids edges own had told),
         lines_on _ _ _ _ _ _ _ _ _ (edges_lines edges) (edges_lines own) _ out more (map-append (λ (edge : ℕ × ℕ). edge_line edge.0 edge.1) edges own),
       );
     }
@@ -71,8 +71,8 @@ loop-shown-preserved g c =
 pub returns : goal.returns
 returns g c =
     let level = level_at c.args.graph.now.levels c.args.level in
-    let (edges, had, out) = c.loop-shown.invariant.out in
+    let (edges, had, out) = c.loop-part.invariant.out in
     let all =
-    gave_all level.parts (map (λ (x : ShownPart × Bor Cluster). (held_part x).shown.part) c.loop-shown.yielded) (map (λ (h : Held). h.shown.part) c.loop-shown.shown-iterator)
-    c.loop-shown.invariant.rest (ap (map (λ (h : Held). h.shown.part)) c.in-None.ensures.steps.0) in
+    gave_all level.parts (map (λ (x : PartRef × Bor Cluster). (held_part x).part) c.loop-part.yielded) (map (λ (h : Held). h.part) c.loop-part.part-iterator)
+    c.loop-part.invariant.rest (ap (map (λ (h : Held). h.part)) c.in-None.ensures.steps.0) in
     (edges, subst (λ (parts : List Part). ListsEach level.graph (order_of level.parts) (order_of parts) edges) all had, out)

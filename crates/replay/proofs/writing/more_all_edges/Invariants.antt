@@ -7,13 +7,13 @@ use Rattle.replay.specs.Writings.{GoesOnLines, ListsEach, edges_lines}
 use Rattle.replay.proofs.writing.more_all_edges.Given as goal
 
 -- the edges to the transactions of the parts so far were written
-abbrev pub invariant-loop-shown : goal.invariant-loop-shown
-invariant-loop-shown g l =
+abbrev pub invariant-loop-part : goal.invariant-loop-part
+invariant-loop-part g l =
     let level = level_at l.fn.graph.levels l.fn.level in
     record {
-      rest : level.parts ≡ map (λ x. (held_part x).shown.part) l.yielded ++ map (λ (h : Held). h.shown.part) l.shown-iterator;
-      held : (h : Held) → Contains l.shown-iterator h → IsHeldIn level h;
-      out : (edges : List (ℕ × ℕ)) × ListsEach level.graph (order_of level.parts) (order_of (map (λ x. (held_part x).shown.part) l.yielded)) edges
+      rest : level.parts ≡ map (λ x. (held_part x).part) l.yielded ++ map (λ (h : Held). h.part) l.part-iterator;
+      held : (h : Held) → Contains l.part-iterator h → IsHeldIn level h;
+      out : (edges : List (ℕ × ℕ)) × ListsEach level.graph (order_of level.parts) (order_of (map (λ x. (held_part x).part) l.yielded)) edges
           × GoesOnLines l.fn.so_far (g.K.Sink.written l.fn.sink) (g.K.Sink.written l.sink) (g.K.Sink.faults l.fn.sink) (g.K.Sink.faults l.sink) l.so_far
           (edges_lines edges);
     }

@@ -30,7 +30,7 @@ add_name-requires g c =
                   old rings c.self.invariant c.args.self.now c.self.view_is c.args.id
                   c.requires.absent,
               (
-                subst (λ (fee : ℤ). IsRate (record { fee = fee; size = c.args.size })) (sym (to_z-of_z w64 c.args.fee c.ranges.fee)) c.requires.rate,
+                subst (λ (fee : ℤ). IsRate (record { fee = fee; size = c.args.size })) (sym (to_z-of_z w64 c.args.fee c.ranges.fee)) c.requires.in_range,
                 (
                   few_named g.row.W c.self.inside.mains c.self.inside.tops c.self.inside.issued old rings c.self.invariant c.args.self.now c.self.view_is
                       c.requires.few,
@@ -49,13 +49,12 @@ invariant_of-self g c =
     kept_still g.row.W c.self.inside.mains c.self.inside.tops c.self.inside.issued c.self.inside.shelves c.self.inside.rings c.self.invariant c.args.self.now
     c.self.view_is c.add_name.new.shelves c.add_name.new.rings err.0 c.add_name.ensures.right err.1 err.2
 
-pub returns-in_err-add_name-clause-picks : goal.returns-in_err-add_name-clause-picks
-returns-in_err-add_name-clause-picks g c = have_picks g.row.W c.add_name.new.shelves c.add_name.ensures.order c.self.inside.issued
-
-pub returns-in_err-add_name-clause-stays : goal.returns-in_err-add_name-clause-stays
-returns-in_err-add_name-clause-stays g c =
-    same_all_stay c.args.self.now (levels_of c.add_name.new.shelves c.self.inside.issued)
-    (ap (λ (s : Shelf). levels_of s c.self.inside.issued) c.in_err-add_name.ensures.err.0 ∙ c.self.view_is)
+pub returns-in_err-add_name-clause-kept : goal.returns-in_err-add_name-clause-kept
+returns-in_err-add_name-clause-kept g c = (
+  have_picks g.row.W c.add_name.new.shelves c.add_name.ensures.order c.self.inside.issued,
+  same_all_stay c.args.self.now (levels_of c.add_name.new.shelves c.self.inside.issued)
+      (ap (λ (s : Shelf). levels_of s c.self.inside.issued) c.in_err-add_name.ensures.err.0 ∙ c.self.view_is),
+)
 
 pub overflow_add-self-2 : goal.overflow_add-self-2
 overflow_add-self-2 g c =
@@ -87,14 +86,13 @@ returns-clause-added g c =
       made.2,
     )
 
-pub returns-clause-picks : goal.returns-clause-picks
-returns-clause-picks g c = have_picks g.row.W c.add_name.new.shelves c.add_name.ensures.order (c.self.inside.issued + 1)
-
-pub returns-clause-stays : goal.returns-clause-stays
-returns-clause-stays g c =
-    name_stays g.row.W c.self.inside.mains c.self.inside.tops c.self.inside.issued c.self.inside.shelves c.self.inside.rings c.self.invariant c.args.self.now
-    c.self.view_is c.args.id (record { fee = to_z w64 (of_z w64 c.args.fee); size = c.args.size }) c.add_name.new.shelves c.in_ok-add_name.ensures.added
-    c.add_name.ensures.order
+pub returns-clause-kept : goal.returns-clause-kept
+returns-clause-kept g c = (
+  have_picks g.row.W c.add_name.new.shelves c.add_name.ensures.order (c.self.inside.issued + 1),
+  name_stays g.row.W c.self.inside.mains c.self.inside.tops c.self.inside.issued c.self.inside.shelves c.self.inside.rings c.self.invariant c.args.self.now
+      c.self.view_is c.args.id (record { fee = to_z w64 (of_z w64 c.args.fee); size = c.args.size }) c.add_name.new.shelves c.in_ok-add_name.ensures.added
+      c.add_name.ensures.order,
+)
 
 pub overflow_add-self : goal.overflow_add-self
 overflow_add-self g c = omega (arith, c.requires.issued, ap (λ (l : Levels). l.issued) c.self.view_is)

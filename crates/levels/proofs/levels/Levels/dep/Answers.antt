@@ -1,5 +1,7 @@
 -- A name of the top level becomes a parent of another.
-use Rattle.std.proofs.Common.{◌≡◌, ◌⊎◌, true, None, inl, refl, sym, ap, ◌∙◌, subst, OnOk, arith}
+use Rattle.std.proofs.Common.{◌≡◌, ◌≢◌, ◌⊎◌, true, None, inl, refl, sym, ap, ◌∙◌, subst, IfErr, OnOk, OnErr, arith}
+use Rattle.graph_model.specs.declared.names.Refusal.{Refusal}
+use Rattle.graph_model.specs.declared.names.Refusal.TheVariants.{Memory}
 use Rattle.graphs.specs.Closures.{Closure, is_ancestor, AddsPair, AreLinked}
 use Rattle.graphs.specs.Graphs.{Lists}
 use Rattle.graphs.specs.declared.names.Level.TheVariants.{Top}
@@ -7,10 +9,11 @@ use Rattle.levels.specs.Joins.{DepRefusalIs}
 use Rattle.levels.specs.Levels.{ChangesTop, HavePicks, level_at}
 use Rattle.levels.specs.Moves.{Connects}
 use Rattle.levels.specs.Shelves.{Shelf, levels_of}
-use Rattle.levels.proofs.Connecting.{RowIs, connected_top, kept_on, row_refused, stays_on}
+use Rattle.levels.proofs.Connecting.{RowIs, connected_top, every_error, kept_on, row_refused, stays_on}
 use Rattle.levels.proofs.Finds.{graph_is, have_picks}
 use Rattle.levels.proofs.Turned.{stays_from, turns_from}
 use Rattle.levels.proofs.Rooms.{work_fits}
+use Rattle.levels.proofs.Unmoved.{same_all_stay}
 use Rattle.levels.proofs.levels.Levels.dep.Goals as goal
 use Rattle.levels.proofs.levels.Levels.dep.Goals.{in-Ok, in-Err}
 
@@ -21,9 +24,14 @@ returns-in_err-link-clause-row g c =
     (row_refused c.args.limits.now _ c.args.parent c.args.child c.from_residual.result
     c.in_err-link.field-0.0 c.from_residual.ensures.1 c.in_err-link.ensures.row)
 
-pub returns-in_err-link-clause-picks : goal.returns-in_err-link-clause-picks
-returns-in_err-link-clause-picks g c =
-    subst HavePicks c.self.view_is (have_picks g.row.W c.self.inside.shelves c.self.invariant.order c.self.inside.issued)
+pub returns-in_err-link-clause-same : goal.returns-in_err-link-clause-same
+returns-in_err-link-clause-same g c = (every_error c.from_residual.result (λ why. (refl, (λ other. refl))), λ up. (refl, refl))
+
+pub returns-in_err-link-clause-kept : goal.returns-in_err-link-clause-kept
+returns-in_err-link-clause-kept g c = (
+  subst HavePicks c.self.view_is (have_picks g.row.W c.self.inside.shelves c.self.invariant.order c.self.inside.issued),
+  same_all_stay c.args.self.now c.args.self.now refl,
+)
 
 pub invariant_of-self : goal.invariant_of-self
 invariant_of-self g c =
@@ -57,23 +65,37 @@ returns-clause-linked g c =
       | in-Err w ↦ subst (λ r. OnOk r changes) (sym w.result-is) tt
     ]
 
-pub returns-clause-still : goal.returns-clause-still
-returns-clause-still g c up =
-    let same = graph_is g.row.W c.self.inside.issued c.self.inside.shelves c.args.self.now c.self.invariant.order c.self.view_is Top in
-    let stay = c.connect.ensures.still (subst (λ (h : Closure). is_ancestor h c.args.parent c.args.child ≡ true) same up) in
-    (ap (λ (s : Shelf). levels_of s c.self.inside.issued) stay.0 ∙ c.self.view_is, stay.2)
-
-pub returns-clause-picks : goal.returns-clause-picks
-returns-clause-picks g c = have_picks g.row.W c.connect.new.shelves c.connect.ensures.kept.0 c.self.inside.issued
-
-pub returns-clause-stays : goal.returns-clause-stays
-returns-clause-stays g c =
+pub returns-clause-same : goal.returns-clause-same
+returns-clause-same g c =
     let old = c.self.inside.shelves in
     let new = c.connect.new.shelves in
     let issued = c.self.inside.issued in
-    stays_from old issued c.args.self.now (levels_of new issued) c.self.view_is
-    (stays_on c.connect.result g.row.W issued old new c.self.invariant.order c.connect.ensures.kept.0 c.args.parent c.args.child c.connect.ensures.linked
-    (c.connect.new.rings ≡ c.self.inside.rings) c.connect.ensures.err)
+    let same = graph_is g.row.W issued old c.args.self.now c.self.invariant.order c.self.view_is Top in
+    let Stays = λ (why : Refusal). (levels_of new issued ≡ c.args.self.now) × (why ≢ Memory → c.connect.new.steps ≡ c.args.steps.now) in
+    let as_it_was = λ (is : new ≡ old). ap (λ (s : Shelf). levels_of s issued) is ∙ c.self.view_is in (
+      elim c.match-connect.branch [
+        | in-Ok w ↦ subst (λ r. IfErr r Stays) (sym w.result-is) tt
+        | in-Err w ↦
+            subst (λ r. IfErr r Stays) (sym w.result-is) (
+              as_it_was (subst (λ r. OnErr r ((new ≡ old) × (c.connect.new.rings ≡ c.self.inside.rings))) w.in-Err.is c.connect.ensures.err).0,
+              (λ other. absurd (other refl)),
+            )
+      ],
+      λ up.
+          let stay = c.connect.ensures.still (subst (λ (h : Closure). is_ancestor h c.args.parent c.args.child ≡ true) same up) in
+          (as_it_was stay.0, stay.2),
+    )
+
+pub returns-clause-kept : goal.returns-clause-kept
+returns-clause-kept g c =
+    let old = c.self.inside.shelves in
+    let new = c.connect.new.shelves in
+    let issued = c.self.inside.issued in (
+      have_picks g.row.W new c.connect.ensures.kept.0 issued,
+      stays_from old issued c.args.self.now (levels_of new issued) c.self.view_is
+          (stays_on c.connect.result g.row.W issued old new c.self.invariant.order c.connect.ensures.kept.0 c.args.parent c.args.child
+          c.connect.ensures.linked (c.connect.new.rings ≡ c.self.inside.rings) c.connect.ensures.err),
+    )
 
 pub returns-clause-steps : goal.returns-clause-steps
 returns-clause-steps g c ids lists =

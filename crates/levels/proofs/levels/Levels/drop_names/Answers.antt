@@ -40,13 +40,12 @@ invariant_of-self g c =
     subst₂ (λ (shelf : Shelf) (rings : Ringed). IsKept g.row.W shelf rings c.self.inside.mains c.self.inside.tops c.self.inside.issued)
     (sym err.0) (sym err.1) c.self.invariant
 
-pub returns-in_err-drop_names-clause-picks : goal.returns-in_err-drop_names-clause-picks
-returns-in_err-drop_names-clause-picks g c = have_picks g.row.W c.drop_names.new.shelves c.drop_names.ensures.kept.0 c.self.inside.issued
-
-pub returns-in_err-drop_names-clause-stays : goal.returns-in_err-drop_names-clause-stays
-returns-in_err-drop_names-clause-stays g c =
-    same_all_stay c.args.self.now (levels_of c.drop_names.new.shelves c.self.inside.issued)
-    (ap (λ (s : Shelf). levels_of s c.self.inside.issued) c.in_err-drop_names.ensures.err.0 ∙ c.self.view_is)
+pub returns-in_err-drop_names-clause-kept : goal.returns-in_err-drop_names-clause-kept
+returns-in_err-drop_names-clause-kept g c = (
+  have_picks g.row.W c.drop_names.new.shelves c.drop_names.ensures.kept.0 c.self.inside.issued,
+  same_all_stay c.args.self.now (levels_of c.drop_names.new.shelves c.self.inside.issued)
+      (ap (λ (s : Shelf). levels_of s c.self.inside.issued) c.in_err-drop_names.ensures.err.0 ∙ c.self.view_is),
+)
 
 pub returns-in_err-drop_names-clause-steps : goal.returns-in_err-drop_names-clause-steps
 returns-in_err-drop_names-clause-steps g c =
@@ -84,16 +83,15 @@ returns-clause-dropped g c =
     turns_from old c.self.inside.issued c.args.self.now (levels_of new c.self.inside.issued) c.self.view_is (λ a b. LosesNames a b c.args.ids.now)
     (dropped_top g.row.W c.self.inside.issued old new c.self.invariant.order done.kept.0 done.dropped.0 c.args.ids.now done.dropped.1)
 
-pub returns-clause-picks : goal.returns-clause-picks
-returns-clause-picks g c = have_picks g.row.W c.drop_names.new.shelves c.drop_names.ensures.kept.0 c.self.inside.issued
-
-pub returns-clause-stays : goal.returns-clause-stays
-returns-clause-stays g c =
+pub returns-clause-kept : goal.returns-clause-kept
+returns-clause-kept g c =
     let old = c.self.inside.shelves in
     let new = c.drop_names.new.shelves in
-    let done = c.in_ok-drop_names.ensures in
-    stays_from old c.self.inside.issued c.args.self.now (levels_of new c.self.inside.issued) c.self.view_is
-    (dropped_keeps g.row.W c.self.inside.issued old new c.self.invariant.order done.kept.0 done.dropped.0 c.args.ids.now done.dropped.1)
+    let done = c.in_ok-drop_names.ensures in (
+      have_picks g.row.W new done.kept.0 c.self.inside.issued,
+      stays_from old c.self.inside.issued c.args.self.now (levels_of new c.self.inside.issued) c.self.view_is
+          (dropped_keeps g.row.W c.self.inside.issued old new c.self.invariant.order done.kept.0 done.dropped.0 c.args.ids.now done.dropped.1),
+    )
 
 pub returns-clause-steps : goal.returns-clause-steps
 returns-clause-steps g c =

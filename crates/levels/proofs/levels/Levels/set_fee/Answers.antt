@@ -47,15 +47,14 @@ returns-clause-still g c same =
       stays.1,
     )
 
-pub returns-clause-picks : goal.returns-clause-picks
-returns-clause-picks g c = have_picks g.row.W c.set_fee.new.self c.set_fee.ensures.order c.self.inside.issued
-
-pub returns-clause-stays : goal.returns-clause-stays
-returns-clause-stays g c =
-    levels_stay g.row.W c.self.inside.issued c.args.id c.self.inside.shelves c.set_fee.new.self c.args.self.now c.self.invariant.order
-    c.set_fee.ensures.order c.self.view_is (to_z w64 (of_z w64 c.args.fee)) c.set_fee.result c.set_fee.ensures.fees c.set_fee.ensures.err
-    (one_rate g.row.W c.self.inside.issued c.args.id c.self.inside.shelves c.args.self.now c.self.invariant.order c.self.view_is c.requires.one)
-    (λ same. (c.set_fee.ensures.still same).0)
+pub returns-clause-kept : goal.returns-clause-kept
+returns-clause-kept g c = (
+  have_picks g.row.W c.set_fee.new.self c.set_fee.ensures.order c.self.inside.issued,
+  levels_stay g.row.W c.self.inside.issued c.args.id c.self.inside.shelves c.set_fee.new.self c.args.self.now c.self.invariant.order
+      c.set_fee.ensures.order c.self.view_is (to_z w64 (of_z w64 c.args.fee)) c.set_fee.result c.set_fee.ensures.fees c.set_fee.ensures.err
+      (one_rate g.row.W c.self.inside.issued c.args.id c.self.inside.shelves c.args.self.now c.self.invariant.order c.self.view_is c.requires.one)
+      (λ same. (c.set_fee.ensures.still same).0),
+)
 
 pub returns-clause-err : goal.returns-clause-err
 returns-clause-err g c =

@@ -9,7 +9,7 @@ pub returns-clause-parts : goal.returns-clause-parts
 returns-clause-parts g c =
     let shown : c.walk_held.result ≡ held_in c.args.level c.args.self.now.store =
     c.walk_held.ensures ∙ ap (λ (s : Store). held_in c.args.level s) c.store.ensures in
-    ap (map (λ (h : Held). h.shown.part)) shown ∙ held_parts g.row.W c.args.self.now c.requires.order c.args.level
+    ap (map (λ (h : Held). h.part)) shown ∙ held_parts g.row.W c.args.self.now c.requires.order c.args.level
 
 pub returns-clause-clusters : goal.returns-clause-clusters
 returns-clause-clusters g c h here =

@@ -34,14 +34,13 @@ add-requires g c =
     let room : length names.0 < c.self.inside.limits.total = may.room in
     let total : c.self.inside.limits.total ≤ 1048576 = c.self.invariant.in_range.total_high in (
       levels_fit g.row.W assumption,
-      (
-        may.absent,
-        (
-          subst (λ fee. IsRate (record { fee = fee; size = c.args.size })) (sym fee)
-              (record { fee = may.pays; some = may.measures.0; size = may.measures.1 }),
-          ((names.0, names.1, omega arith), subst (λ (k : Kept). k.levels.issued < 2 ^ 64 - 1) (sym c.self.view_is) c.requires),
-        ),
-      ),
+      record {
+        absent = may.absent;
+        in_range = subst (λ fee. IsRate (record { fee = fee; size = c.args.size })) (sym fee)
+            (record { fee = may.pays; some = may.measures.0; size = may.measures.1 });
+        few = (names.0, names.1, omega arith);
+        issued = subst (λ (k : Kept). k.levels.issued < 2 ^ 64 - 1) (sym c.self.view_is) c.requires;
+      },
     )
 
 pub invariant_of-self : goal.invariant_of-self
@@ -64,8 +63,8 @@ invariant_of-self-2 g c =
     let kept = kept_of (64 * g.row.W) c.self.inside.limits c.self.inside.begun c.self.inside.levels in
     let done = sym c.is_err.ensures.value ∙ c.if-is_err.false in
     sound_after kept (kept_of (64 * g.row.W) c.self.inside.limits true c.add.new.self)
-    (Add c.args.id c.args.fee c.args.size) Done c.self.invariant c.self.invariant.in_range c.add.ensures.picks
-    (add_step (64 * g.row.W) c.self.inside.limits c.self.inside.begun c.self.inside.levels c.add.new.self c.add.ensures.picks
+    (Add c.args.id c.args.fee c.args.size) Done c.self.invariant c.self.invariant.in_range c.add.ensures.kept.0
+    (add_step (64 * g.row.W) c.self.inside.limits c.self.inside.begun c.self.inside.levels c.add.new.self c.add.ensures.kept.0
     c.args.id c.args.fee c.args.size c.ranges.id.fits
     (subst (λ fee. AddRowIs kept c.args.id fee c.args.size None) (to_z-of_z w64 c.args.fee c.ranges.fee) c.in_default.ensures.row)
     (subst (λ fee. IsAddedTo c.args.id fee c.args.size c.self.inside.levels c.add.new.self) (to_z-of_z w64 c.args.fee c.ranges.fee)
@@ -76,7 +75,7 @@ returns-clause-step g c =
     let kept = kept_of (64 * g.row.W) c.self.inside.limits c.self.inside.begun c.self.inside.levels in
     let done = sym c.is_err.ensures.value ∙ c.if-is_err.false in
     from_view kept c.args.self.now (kept_of (64 * g.row.W) c.self.inside.limits true c.add.new.self) (Add c.args.id c.args.fee c.args.size) Done c.self.view_is
-    (add_step (64 * g.row.W) c.self.inside.limits c.self.inside.begun c.self.inside.levels c.add.new.self c.add.ensures.picks
+    (add_step (64 * g.row.W) c.self.inside.limits c.self.inside.begun c.self.inside.levels c.add.new.self c.add.ensures.kept.0
     c.args.id c.args.fee c.args.size c.ranges.id.fits
     (subst (λ fee. AddRowIs kept c.args.id fee c.args.size None) (to_z-of_z w64 c.args.fee c.ranges.fee) c.in_default.ensures.row)
     (subst (λ fee. IsAddedTo c.args.id fee c.args.size c.self.inside.levels c.add.new.self) (to_z-of_z w64 c.args.fee c.ranges.fee)
@@ -95,7 +94,7 @@ pub returns-in-Some-clause-steps : goal.returns-in-Some-clause-steps
 returns-in-Some-clause-steps g c = refl
 
 pub returns-then-is_err-clause-stays : goal.returns-then-is_err-clause-stays
-returns-then-is_err-clause-stays g c = subst (λ (k : Kept). AllStay k.levels c.add.new.self) c.self.view_is c.add.ensures.stays
+returns-then-is_err-clause-stays g c = subst (λ (k : Kept). AllStay k.levels c.add.new.self) c.self.view_is c.add.ensures.kept.1
 
 pub returns-then-is_err-clause-additions : goal.returns-then-is_err-clause-additions
 returns-then-is_err-clause-additions g c =
@@ -106,7 +105,7 @@ pub returns-then-is_err-clause-steps : goal.returns-then-is_err-clause-steps
 returns-then-is_err-clause-steps g c = c.add.ensures.steps
 
 pub returns-clause-stays : goal.returns-clause-stays
-returns-clause-stays g c = subst (λ (k : Kept). AllStay k.levels c.add.new.self) c.self.view_is c.add.ensures.stays
+returns-clause-stays g c = subst (λ (k : Kept). AllStay k.levels c.add.new.self) c.self.view_is c.add.ensures.kept.1
 
 pub returns-clause-additions : goal.returns-clause-additions
 returns-clause-additions g c =

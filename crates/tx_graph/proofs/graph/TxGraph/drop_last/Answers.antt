@@ -95,7 +95,7 @@ returns-then-is_err-clause-step g c =
     (evict_row kept in_main.some.0 (sym c.is_staged.ensures ∙ c.if-is_staged.false) (in_main.live in_main.some.0 in_main.some.1)))
 
 pub returns-then-is_err-clause-stays : goal.returns-then-is_err-clause-stays
-returns-then-is_err-clause-stays g c = subst (λ (k : Kept). AllStay k.levels c.drop_names.new.self) c.self.view_is c.drop_names.ensures.stays
+returns-then-is_err-clause-stays g c = subst (λ (k : Kept). AllStay k.levels c.drop_names.new.self) c.self.view_is c.drop_names.ensures.kept.1
 
 pub returns-then-is_err-clause-additions : goal.returns-then-is_err-clause-additions
 returns-then-is_err-clause-additions g c =
@@ -119,8 +119,8 @@ invariant_of-self-2 g c =
     let row = c.in_ok-picked.ensures.row in
     let in_main = last_in kept c.self.invariant row.0 row.1 in
     sound_after kept (kept_of (64 * g.row.W) c.self.inside.limits true c.drop_names.new.self) Evict (Evicted row.0.rate row.0.ids)
-    c.self.invariant c.self.invariant.in_range c.drop_names.ensures.picks
-    (evict_step (64 * g.row.W) c.self.inside.limits c.self.inside.begun c.self.inside.levels c.drop_names.new.self c.drop_names.ensures.picks
+    c.self.invariant c.self.invariant.in_range c.drop_names.ensures.kept.0
+    (evict_step (64 * g.row.W) c.self.inside.limits c.self.inside.begun c.self.inside.levels c.drop_names.new.self c.drop_names.ensures.kept.0
     (sym c.is_staged.ensures ∙ c.if-is_staged.false) row.0 c.last_part.ensures.best row.1 in_main.some.0 in_main.some.1
     (in_main.live in_main.some.0 in_main.some.1)
     (subst (λ (ns : List ℕ). ChangesTop (λ a b. LosesNames a b ns) c.self.inside.levels c.drop_names.new.self) (c.as_slice.ensures ∙ row.2.ids)
@@ -134,14 +134,14 @@ returns-clause-step g c =
     let new = kept_of (64 * g.row.W) c.self.inside.limits true c.drop_names.new.self in
     subst (λ (reply : Reply). MakesStep c.args.self.now new Evict reply) (picked_told row.0 _ row.2)
     (from_view kept c.args.self.now new Evict (Evicted row.0.rate row.0.ids) c.self.view_is
-    (evict_step (64 * g.row.W) c.self.inside.limits c.self.inside.begun c.self.inside.levels c.drop_names.new.self c.drop_names.ensures.picks
+    (evict_step (64 * g.row.W) c.self.inside.limits c.self.inside.begun c.self.inside.levels c.drop_names.new.self c.drop_names.ensures.kept.0
     (sym c.is_staged.ensures ∙ c.if-is_staged.false) row.0 c.last_part.ensures.best row.1 in_main.some.0 in_main.some.1
     (in_main.live in_main.some.0 in_main.some.1)
     (subst (λ (ns : List ℕ). ChangesTop (λ a b. LosesNames a b ns) c.self.inside.levels c.drop_names.new.self) (c.as_slice.ensures ∙ row.2.ids)
     (when_ok c.drop_names.result (sym c.is_err.ensures.value ∙ c.if-is_err.false) c.drop_names.ensures.dropped))))
 
 pub returns-clause-stays : goal.returns-clause-stays
-returns-clause-stays g c = subst (λ (k : Kept). AllStay k.levels c.drop_names.new.self) c.self.view_is c.drop_names.ensures.stays
+returns-clause-stays g c = subst (λ (k : Kept). AllStay k.levels c.drop_names.new.self) c.self.view_is c.drop_names.ensures.kept.1
 
 pub returns-clause-additions : goal.returns-clause-additions
 returns-clause-additions g c =

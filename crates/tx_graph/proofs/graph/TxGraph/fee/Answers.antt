@@ -71,8 +71,8 @@ invariant_of-self-2 g c =
     let done = sym c.is_err.ensures.value ∙ c.if-is_err.false in
     sound_after (kept_of (64 * g.row.W) c.self.inside.limits c.self.inside.begun c.self.inside.levels)
     (kept_of (64 * g.row.W) c.self.inside.limits true c.set_fee.new.self)
-    (SetFee c.args.id c.args.fee) Done c.self.invariant c.self.invariant.in_range c.set_fee.ensures.picks
-    (fee_step (64 * g.row.W) c.self.inside.limits c.self.inside.begun c.self.inside.levels c.set_fee.new.self c.set_fee.ensures.picks
+    (SetFee c.args.id c.args.fee) Done c.self.invariant c.self.invariant.in_range c.set_fee.ensures.kept.0
+    (fee_step (64 * g.row.W) c.self.inside.limits c.self.inside.begun c.self.inside.levels c.set_fee.new.self c.set_fee.ensures.kept.0
     c.args.id c.args.fee (subst IsFee fee (c.is_fee.ensures.0 c.if-not-is_fee.false)) (c.is_live.ensures.0 c.if-not-is_live.false)
     (subst (λ f. SetsFeeIn c.args.id f c.self.inside.levels c.set_fee.new.self) fee (when_ok c.set_fee.result done c.set_fee.ensures.fee))
     (λ same. (c.set_fee.ensures.still (λ level member. same level member ∙ sym fee)).0))
@@ -83,7 +83,7 @@ returns-clause-step g c =
     let done = sym c.is_err.ensures.value ∙ c.if-is_err.false in
     from_view (kept_of (64 * g.row.W) c.self.inside.limits c.self.inside.begun c.self.inside.levels)
     c.args.self.now (kept_of (64 * g.row.W) c.self.inside.limits true c.set_fee.new.self) (SetFee c.args.id c.args.fee) Done c.self.view_is
-    (fee_step (64 * g.row.W) c.self.inside.limits c.self.inside.begun c.self.inside.levels c.set_fee.new.self c.set_fee.ensures.picks
+    (fee_step (64 * g.row.W) c.self.inside.limits c.self.inside.begun c.self.inside.levels c.set_fee.new.self c.set_fee.ensures.kept.0
     c.args.id c.args.fee (subst IsFee fee (c.is_fee.ensures.0 c.if-not-is_fee.false)) (c.is_live.ensures.0 c.if-not-is_live.false)
     (subst (λ f. SetsFeeIn c.args.id f c.self.inside.levels c.set_fee.new.self) fee (when_ok c.set_fee.result done c.set_fee.ensures.fee))
     (λ same. (c.set_fee.ensures.still (λ level member. same level member ∙ sym fee)).0))
@@ -100,10 +100,10 @@ returns-clause-nothing g c =
     (λ same. (c.set_fee.ensures.still (λ level member. same level member ∙ sym fee)).1)
 
 pub returns-then-is_err-clause-stays : goal.returns-then-is_err-clause-stays
-returns-then-is_err-clause-stays g c = subst (λ (k : Kept). AllStay k.levels c.set_fee.new.self) c.self.view_is c.set_fee.ensures.stays
+returns-then-is_err-clause-stays g c = subst (λ (k : Kept). AllStay k.levels c.set_fee.new.self) c.self.view_is c.set_fee.ensures.kept.1
 
 pub returns-clause-stays : goal.returns-clause-stays
-returns-clause-stays g c = subst (λ (k : Kept). AllStay k.levels c.set_fee.new.self) c.self.view_is c.set_fee.ensures.stays
+returns-clause-stays g c = subst (λ (k : Kept). AllStay k.levels c.set_fee.new.self) c.self.view_is c.set_fee.ensures.kept.1
 
 pub is_live-requires : goal.is_live-requires
 is_live-requires g c = levels_fit g.row.W assumption

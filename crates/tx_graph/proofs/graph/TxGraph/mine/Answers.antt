@@ -103,7 +103,7 @@ returns-then-is_err-clause-step g c =
 pub returns-then-is_err-clause-stays : goal.returns-then-is_err-clause-stays
 returns-then-is_err-clause-stays g c =
     subst (λ (k : Kept). AllStay k.levels c.drop_names.new.self) c.self.view_is
-    (subst (λ (l : Levels). AllStay l c.drop_names.new.self) c.refused_mine.ensures.same c.drop_names.ensures.stays)
+    (subst (λ (l : Levels). AllStay l c.drop_names.new.self) c.refused_mine.ensures.same c.drop_names.ensures.kept.1)
 
 pub returns-then-is_err-clause-additions : goal.returns-then-is_err-clause-additions
 returns-then-is_err-clause-additions g c =
@@ -127,8 +127,8 @@ invariant_of-self-2 g c =
     let kept = kept_of (64 * g.row.W) c.self.inside.limits c.self.inside.begun c.self.inside.levels in
     let done = sym c.is_err.ensures.value ∙ c.if-is_err.false in
     sound_after kept (kept_of (64 * g.row.W) c.self.inside.limits true c.drop_names.new.self) (Mine c.args.ids.now) Done
-    c.self.invariant c.self.invariant.in_range c.drop_names.ensures.picks
-    (mine_step (64 * g.row.W) c.self.inside.limits c.self.inside.begun c.self.inside.levels c.drop_names.new.self c.drop_names.ensures.picks
+    c.self.invariant c.self.invariant.in_range c.drop_names.ensures.kept.0
+    (mine_step (64 * g.row.W) c.self.inside.limits c.self.inside.begun c.self.inside.levels c.drop_names.new.self c.drop_names.ensures.kept.0
     (sym c.is_staged.ensures ∙ c.if-is_staged.false) c.args.ids.now c.self.invariant (c.requires, all_small c.args.ids.now (λ i. omega (arith, c.type_inv.ids i))) c.in_default.ensures.row
     (subst (λ (l : Levels). ChangesTop (λ a b. LosesNames a b c.args.ids.now) l c.drop_names.new.self) c.refused_mine.ensures.same
     (when_ok c.drop_names.result done c.drop_names.ensures.dropped)))
@@ -138,7 +138,7 @@ returns-clause-step g c =
     let kept = kept_of (64 * g.row.W) c.self.inside.limits c.self.inside.begun c.self.inside.levels in
     let done = sym c.is_err.ensures.value ∙ c.if-is_err.false in
     from_view kept c.args.self.now (kept_of (64 * g.row.W) c.self.inside.limits true c.drop_names.new.self) (Mine c.args.ids.now) Done c.self.view_is
-    (mine_step (64 * g.row.W) c.self.inside.limits c.self.inside.begun c.self.inside.levels c.drop_names.new.self c.drop_names.ensures.picks
+    (mine_step (64 * g.row.W) c.self.inside.limits c.self.inside.begun c.self.inside.levels c.drop_names.new.self c.drop_names.ensures.kept.0
     (sym c.is_staged.ensures ∙ c.if-is_staged.false) c.args.ids.now c.self.invariant (c.requires, all_small c.args.ids.now (λ i. omega (arith, c.type_inv.ids i))) c.in_default.ensures.row
     (subst (λ (l : Levels). ChangesTop (λ a b. LosesNames a b c.args.ids.now) l c.drop_names.new.self) c.refused_mine.ensures.same
     (when_ok c.drop_names.result done c.drop_names.ensures.dropped)))
@@ -146,7 +146,7 @@ returns-clause-step g c =
 pub returns-clause-stays : goal.returns-clause-stays
 returns-clause-stays g c =
     subst (λ (k : Kept). AllStay k.levels c.drop_names.new.self) c.self.view_is
-    (subst (λ (l : Levels). AllStay l c.drop_names.new.self) c.refused_mine.ensures.same c.drop_names.ensures.stays)
+    (subst (λ (l : Levels). AllStay l c.drop_names.new.self) c.refused_mine.ensures.same c.drop_names.ensures.kept.1)
 
 pub returns-clause-additions : goal.returns-clause-additions
 returns-clause-additions g c =

@@ -42,8 +42,8 @@ invariant_of-self-2 g c =
     let done = sym c.is_err.ensures.value ∙ c.if-is_err.false in
     sound_after (kept_of (64 * g.row.W) c.self.inside.limits c.self.inside.begun c.self.inside.levels)
     (kept_of (64 * g.row.W) c.self.inside.limits true c.remove.new.self) (Remove c.args.id) Done
-    c.self.invariant c.self.invariant.in_range c.remove.ensures.picks
-    (remove_step (64 * g.row.W) c.self.inside.limits c.self.inside.begun c.self.inside.levels c.remove.new.self c.remove.ensures.picks
+    c.self.invariant c.self.invariant.in_range c.remove.ensures.kept.0
+    (remove_step (64 * g.row.W) c.self.inside.limits c.self.inside.begun c.self.inside.levels c.remove.new.self c.remove.ensures.kept.0
     c.args.id (sym c.has.ensures ∙ c.if-not-has.false) (when_ok c.remove.result done c.remove.ensures.dropped))
 
 pub returns-clause-step : goal.returns-clause-step
@@ -51,7 +51,7 @@ returns-clause-step g c =
     let done = sym c.is_err.ensures.value ∙ c.if-is_err.false in
     from_view (kept_of (64 * g.row.W) c.self.inside.limits c.self.inside.begun c.self.inside.levels)
     c.args.self.now (kept_of (64 * g.row.W) c.self.inside.limits true c.remove.new.self) (Remove c.args.id) Done c.self.view_is
-    (remove_step (64 * g.row.W) c.self.inside.limits c.self.inside.begun c.self.inside.levels c.remove.new.self c.remove.ensures.picks
+    (remove_step (64 * g.row.W) c.self.inside.limits c.self.inside.begun c.self.inside.levels c.remove.new.self c.remove.ensures.kept.0
     c.args.id (sym c.has.ensures ∙ c.if-not-has.false) (when_ok c.remove.result done c.remove.ensures.dropped))
 
 pub returns-clause-steps : goal.returns-clause-steps
@@ -78,7 +78,7 @@ returns-then-not-has-clause-steps g c =
     record { grew = not_larger c.args.steps.now; few = λ lists are. within_one c.args.steps.now (most_steps_of lists) }
 
 pub returns-then-is_err-clause-stays : goal.returns-then-is_err-clause-stays
-returns-then-is_err-clause-stays g c = subst (λ (k : Kept). AllStay k.levels c.remove.new.self) c.self.view_is c.remove.ensures.stays
+returns-then-is_err-clause-stays g c = subst (λ (k : Kept). AllStay k.levels c.remove.new.self) c.self.view_is c.remove.ensures.kept.1
 
 pub returns-then-is_err-clause-additions : goal.returns-then-is_err-clause-additions
 returns-then-is_err-clause-additions g c =
@@ -89,7 +89,7 @@ pub returns-then-is_err-clause-refused : goal.returns-then-is_err-clause-refused
 returns-then-is_err-clause-refused g c lacks = absurd (lacks refl)
 
 pub returns-clause-stays : goal.returns-clause-stays
-returns-clause-stays g c = subst (λ (k : Kept). AllStay k.levels c.remove.new.self) c.self.view_is c.remove.ensures.stays
+returns-clause-stays g c = subst (λ (k : Kept). AllStay k.levels c.remove.new.self) c.self.view_is c.remove.ensures.kept.1
 
 pub returns-clause-additions : goal.returns-clause-additions
 returns-clause-additions g c =
