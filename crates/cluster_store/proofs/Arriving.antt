@@ -2,7 +2,7 @@
 use Rattle.std.proofs.Common.{◌≡◌, ℕ, suc, ◌<◌, Bool, true, false, List, [], ◌∷◌, map, length, Contains, Some, None, inl, inr, sym, ap, ◌∙◌, arith}
 use Rattle.std.specs.Prelude.{slice_get, slice_index, option_map}
 use Rattle.std.specs.FinMap as finmap
-use Rattle.std.proofs.lemmas.List.{length-map}
+use Rattle.std.proofs.lemmas.List.{get_or_default, length-map}
 use Rattle.std.proofs.lemmas.Option.{same_Some, slice_get-map, slice_get_cases}
 use Rattle.lists.proofs.Entries.{Contains-cases, none_in_empty}
 use Rattle.lists.proofs.Told.{told_number}
@@ -22,12 +22,8 @@ abbrev pub tagged : Tag → Cluster → Stored
 tagged tag c = record { cluster = c; tag = tag }
 
 -- the place of a number
-place_of : (list : List ℕ) (n : ℕ) → Contains list n → (i : ℕ) × (i < length list) × (slice_index list i ≡ n)
-place_of [] n here = absurd (none_in_empty n here)
-place_of (x ∷ xs) n here = elim (Contains-cases x n xs here) [
-  | inl same ↦ (0, omega arith, same)
-  | inr later ↦ let at = place_of xs n later in (suc at.0, omega (arith, at.1), at.2)
-]
+pub place_of : (list : List ℕ) (n : ℕ) → Contains list n → (i : ℕ) × (i < length list) × (slice_index list i ≡ n)
+place_of list n here = (here.0, here.1, get_or_default list here.0 0 n here.1 ∙ here.2)
 
 module _ (staged : Bool) (rest : List Cluster) (made : List ℕ) (old new : Slots) (adds : AddsTo (map (tagged (top_tag staged)) rest) made old new)
     (both : staged ≡ false → AllHave Both (shelved old)) where

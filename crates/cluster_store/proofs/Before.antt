@@ -80,7 +80,7 @@ module _ (most : ℕ) (level : Level) (store : Store) (is : IsStore most store) 
   names_at place = (part_at store.clusters place).ids
 
   -- a level's parts, by their places
-  by_places : map (part_at store.clusters) (places_in level store) ≡ parts_of_level level store
+  pub by_places : map (part_at store.clusters) (places_in level store) ≡ parts_of_level level store
   by_places = sym (map-map (λ (s : Shown). s.part) (shown_at store.clusters) (places_in level store))
 
   names_by_places : flat_map names_at (places_in level store) ≡ names_in_order level store

@@ -50,9 +50,6 @@ absent_member g q absent = none_of (finmap.get g q) absent
 pub below_in : (g : Closure) (q d : ℕ) (c : Cluster) → IsClusterOf g q c → is_ancestor g q d ≡ true → Contains c.names d
 below_in g q d c of up = of.alone d (d ∷ [], (inl up, refl))
 
-pub not_below : (g : Closure) (q d : ℕ) (c : Cluster) → IsClusterOf g q c → (Contains c.names d → ⊥) → is_ancestor g q d ≡ false
-not_below g q d c of out = false_from_ne_true (is_ancestor g q d) (λ up. out (below_in g q d c of up))
-
 -- ---- a cluster in the place of another of the same names
 
 module _ (a b : Cluster) (g h : Closure) (r : IsRebuilt (a ∷ []) (b ∷ []) [] g h) (names : b.names ≡ a.names) where

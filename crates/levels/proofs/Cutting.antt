@@ -23,12 +23,6 @@ pub record Cuts (clusters : List Cluster) (old new : Ringed) : Type 0 where
   pub main : AreCut old clusters new
   pub touched : (x : ℕ) → IsMarked new x ↔ IsMarked old x
 
-pub cut_none : (old : Ringed) → AreCut old [] old
-cut_none old x y = (
-  λ share. inl (share, λ named. none_in_empty named.0 named.1, λ named. none_in_empty named.0 named.1),
-  λ either. elim either [ inl was ↦ was.0 | inr once ↦ absurd (none_in_empty once.0 once.1) ],
-)
-
 -- one of some clusters, or of one more, has a name
 named_cases : (front : List Cluster) (c : Cluster) (x : ℕ) → HasName (front ++ c ∷ []) x → HasName front x ⊎ Contains c.names x
 named_cases front c x named = elim (Contains-push_cases front c named.0 named.1) [

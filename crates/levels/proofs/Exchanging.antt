@@ -18,11 +18,14 @@ use Rattle.levels.specs.Changes.{Rebuilds}
 use Rattle.levels.specs.Shelves.{AllHave, IsInOrder, Shelf, numbers_at, seen_at, seen_in, stored_at, view_of}
 use Rattle.levels.specs.Tops.{HaveSameNames}
 use Rattle.levels.specs.Views.{IsIndexed, Numbers, StandsAt, View}
+use Rattle.levels.proofs.Graphs.{cases_option}
 use Rattle.levels.proofs.Calls.{shelf_of}
 use Rattle.cluster_store.proofs.Listed.{at_one, other_one}
 use Rattle.levels.proofs.Finds.{indexed_at}
 use Rattle.levels.proofs.Making.{named_one, one_named, pairs_one, points_one, whole_one}
-use Rattle.levels.proofs.Seen.{same_seen, seen_is_stored, some_stored}
+use Rattle.cluster_store.proofs.Seen.{same_seen}
+use Rattle.name_book.proofs.Entries.{some_key}
+use Rattle.levels.proofs.Seen.{seen_is_stored}
 
 -- ---- a level in which a cluster takes the place of another of the same names
 
@@ -63,10 +66,6 @@ seen_with level c (Some s) = from (is_in level s.tag)
     from true = refl
     from false = refl
 
-pub cases_cluster : (o : Option Cluster) → (o ≡ None) ⊎ ((c : Cluster) × (o ≡ Some c))
-cases_cluster None = inl refl
-cases_cluster (Some c) = inr (c, refl)
-
 -- a number whose cluster is exchanged
 pub record IsExchanged (exchanged : List Exchange) (old new : Shelf) (number : ℕ) : Type 0 where
   pub by : Exchange
@@ -80,7 +79,7 @@ module _ (w : ℕ) (exchanged : List Exchange) (old new : Shelf) (order : IsInOr
   pub exchanged_at : (number : ℕ) → Contains (map (λ y. y.number) exchanged) number → IsExchanged exchanged old new number
   exchanged_at number here =
       let y = map-Contains (λ (y : Exchange). y.number) exchanged number here in
-      let s = some_stored (finmap.get old.store.clusters number) (same.held.there number here) in
+      let s = some_key (finmap.get old.store.clusters number) (same.held.there number here) in
       let is : finmap.get old.store.clusters y.0.number ≡ Some s.0 = ap (finmap.get old.store.clusters) y.2 ∙ s.1 in
       let now : finmap.get new.store.clusters number ≡ with_cluster y.0.cluster (Some s.0) =
       ap (finmap.get new.store.clusters) (sym y.2) ∙ x.exchanges y.0 s.0 y.1 is in
@@ -110,7 +109,7 @@ module _ (w : ℕ) (exchanged : List Exchange) (old new : Shelf) (order : IsInOr
     | inl stays ↦
         let at = sym (same_seen level old.store.clusters new.store.clusters number stays) ∙ is in
         record { was = c; at = at; names = refl; whole = (indexed_at w old order level).whole number c at }
-    | inr e ↦ elim (cases_cluster (seen_at level old.store.clusters number)) [
+    | inr e ↦ elim (cases_option (seen_at level old.store.clusters number)) [
       | inl none ↦ absurd (none-some c (ap (option_map (λ _. e.by.cluster)) (sym none) ∙ sym (e.seen level) ∙ is))
       | inr some ↦
           let one : e.by.cluster ≡ c = same_Some e.by.cluster c (ap (option_map (λ _. e.by.cluster)) (sym some.1) ∙ sym (e.seen level) ∙ is) in

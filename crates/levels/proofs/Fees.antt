@@ -18,9 +18,11 @@ use Rattle.levels.specs.Moves.{AreNumbersOf, ArePriced, IsPriced, SetsFeeAt, Set
 use Rattle.levels.specs.Shelves.{Shelf, IsInOrder, numbers_at, seen_at, stored_at, view_of}
 use Rattle.levels.specs.Tops.{HaveSameNames}
 use Rattle.cluster_store.proofs.Listed.{only_one}
-use Rattle.levels.proofs.Exchanging.{IsExchanged, by_number, cases_cluster, exchanged_at, rebuilds_swapped}
+use Rattle.levels.proofs.Graphs.{cases_option}
+use Rattle.levels.proofs.Exchanging.{IsExchanged, by_number, exchanged_at, rebuilds_swapped}
 use Rattle.levels.proofs.Finds.{indexed_at}
-use Rattle.levels.proofs.Seen.{same_seen, seen_is_stored}
+use Rattle.cluster_store.proofs.Seen.{same_seen}
+use Rattle.levels.proofs.Seen.{seen_is_stored}
 use Rattle.levels.proofs.Under.{held, is_stored}
 
 -- two numbers with the same bits are the same
@@ -232,7 +234,7 @@ module _ (w id first : ℕ) (second : Option ℕ) (fee : ℤ) (list : List Excha
     unseen level n away = elim (by_number w list old new order same_names x level_numbers n) [
       | inl stays ↦ same_seen level old.store.clusters new.store.clusters n stays
       | inr e ↦
-          let none : seen_at level old.store.clusters n ≡ None = elim (cases_cluster (seen_at level old.store.clusters n)) [
+          let none : seen_at level old.store.clusters n ≡ None = elim (cases_option (seen_at level old.store.clusters n)) [
             | inl none ↦ none
             | inr some ↦
                 let held = subst (λ (c : Cluster). Contains c.names id) (was_is level n some.0 e some.1) (priced e.by e.in_list).held in

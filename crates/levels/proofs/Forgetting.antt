@@ -10,13 +10,6 @@ use Rattle.levels.specs.Rings.{Forgets, Ringed}
 use Rattle.levels.specs.Views.{Numbers}
 use Rattle.levels.proofs.Righting.{AreLost}
 
-pub forgets_none : (These : ℕ → Type 0) (rings : Ringed) → ((x : ℕ) → These x → ⊥) → Forgets These rings rings
-forgets_none These rings none = record {
-  names = λ x. (λ named. (named, none x), λ both. both.0);
-  main = λ x y. (λ share. (share, none x, none y), λ both. both.0);
-  touched = λ x. (λ marked. (marked, none x), λ both. both.0);
-}
-
 -- other words for the names that go
 pub forgets_alike : (These Those : ℕ → Type 0) (old new : Ringed) → ((x : ℕ) → These x ↔ Those x) → Forgets These old new → Forgets Those old new
 forgets_alike These Those old new same forgets = record {

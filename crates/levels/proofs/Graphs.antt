@@ -72,15 +72,15 @@ unfolding ancestors_of
 above-none view a q none = ap (λ o. set.contains (ancestors_in o) a) (get-none view q none) ∙ set.contains-empty nat_cmp a
 
 -- a number or none
-pub cases_number : (o : Option ℕ) → (o ≡ None) ⊎ ((number : ℕ) × (o ≡ Some number))
-cases_number None = inl refl
-cases_number (Some number) = inr (number, refl)
+pub cases_option : {A : Type 0} (o : Option A) → (o ≡ None) ⊎ ((x : A) × (o ≡ Some x))
+cases_option None = inl refl
+cases_option (Some x) = inr (x, refl)
 
 -- a name with one number in two views, with one cluster under it in both
 pub get-graph-same : (old new : View) (q : ℕ) → finmap.get new.numbers q ≡ finmap.get old.numbers q
     → ((n : ℕ) → finmap.get old.numbers q ≡ Some n → (c : Cluster) × (old.at n ≡ Some c) × (new.at n ≡ Some c))
     → finmap.get (graph_of new) q ≡ finmap.get (graph_of old) q
-get-graph-same old new q same both = elim (cases_number (finmap.get old.numbers q)) [
+get-graph-same old new q same both = elim (cases_option (finmap.get old.numbers q)) [
   | inl none ↦ get-none new q (same ∙ none) ∙ sym (get-none old q none)
   | inr some ↦ let at = both some.0 some.1 in get-at new q some.0 at.0 (same ∙ some.1) at.2 ∙ sym (get-at old q some.0 at.0 some.1 at.1)
 ]
@@ -119,7 +119,7 @@ module _ (most : ℕ) (view : View) (indexed : IsIndexed most view) where
       above-at view a d number c (indexed.listed number d c is here) is ∙ up
 
   pub in_above : (a d : ℕ) → is_ancestor (graph_of view) a d ≡ true → AboveIn view.at a d
-  in_above a d up = elim (cases_number (finmap.get view.numbers d)) [
+  in_above a d up = elim (cases_option (finmap.get view.numbers d)) [
     | inl none ↦ absurd (true≢false (sym up ∙ above-none view a d none))
     | inr some ↦
         let at = indexed.stands d some.0 some.1 in
@@ -144,7 +144,7 @@ module _ (most : ℕ) (view : View) (indexed : IsIndexed most view) where
 
   -- a live name stands in a cluster
   pub live_in : (id : ℕ) → is_member (graph_of view) id ≡ true → (number : ℕ) × (finmap.get view.numbers id ≡ Some number) × StandsAt view number id
-  live_in id member = elim (cases_number (finmap.get view.numbers id)) [
+  live_in id member = elim (cases_option (finmap.get view.numbers id)) [
     | inl none ↦ absurd (true≢false (sym member ∙ member-number view id ∙ ap is_some none))
     | inr some ↦ (some.0, some.1, indexed.stands id some.0 some.1)
   ]

@@ -14,7 +14,7 @@ use Rattle.levels.specs.Rings.{LeftMain}
 use Rattle.levels.specs.Shelves.{AllHave, Shelf, seen_at, view_of}
 use Rattle.levels.specs.Tops.{TopRebuilds}
 use Rattle.levels.specs.Views.{IsIndexed}
-use Rattle.levels.proofs.Seen.{seen_stored}
+use Rattle.cluster_store.proofs.Seen.{seen_stored}
 use Rattle.levels.proofs.Shelved.{stands_seen}
 
 -- what stands in main and not in the top level stands in main alone

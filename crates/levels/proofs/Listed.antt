@@ -11,9 +11,6 @@ use Rattle.graphs.specs.declared.names.Level.TheVariants.{Top}
 use Rattle.levels.specs.Lefts.{AreListed, AreNumbered}
 use Rattle.levels.specs.Shelves.{Shelf, numbers_at}
 
-pub none_numbered : (shelf : Shelf) → AreNumbered shelf [] []
-none_numbered shelf = record { exact = λ id. (λ h. absurd (none_in_empty id h), λ h. absurd (none_in_empty id h)); there = λ e h. absurd (none_in_empty e h) }
-
 -- one name more
 pub one_numbered : (shelf : Shelf) (ids : List ℕ) (listed : List (ℕ × ℕ)) (i d number : ℕ) → i < length ids
     → finmap.get (numbers_at Top shelf) (get_or ids i d) ≡ Some number → AreNumbered shelf (take i ids) listed

@@ -6,6 +6,7 @@ use Rattle.lists.proofs.Entries.{Contains-head, Contains-later, Contains-cases, 
 use Rattle.std.proofs.lemmas.List.Elements.{Contains-get_or}
 use Rattle.lists.proofs.Told.{told_number}
 use Rattle.cluster.specs.Clusters.{Cluster}
+use Rattle.cluster_store.proofs.Arriving.{place_of}
 use Rattle.levels.specs.Changes.{AreAt, IsNamed}
 
 -- one of some clusters has a name, or none has
@@ -20,14 +21,6 @@ decide_named (c ∷ cs) id = elim (told_number c.names id) [
       | inr later ↦ none (named.0, later, named.2)
     ])
   ]
-]
-
--- the place of a number
-pub place_of : (list : List ℕ) (n : ℕ) → Contains list n → (i : ℕ) × (i < length list) × (slice_index list i ≡ n)
-place_of [] n here = absurd (omega (arith, here.1))
-place_of (x ∷ xs) n here = elim (Contains-cases x n xs here) [
-  | inl same ↦ (0, omega arith, same)
-  | inr later ↦ let at = place_of xs n later in (suc at.0, omega (arith, at.1), at.2)
 ]
 
 -- where a cluster stands among some

@@ -45,10 +45,3 @@ pub more_names : (more : ℕ) (xs : List Cluster) (i : ℕ) (x : Cluster) (names
     → after ≡ sum_by (λ (c : Cluster). length c.names) (take (i + 1) xs) + more
 more_names more xs i x names before after low is named was told =
     omega (arith, was, told, ap (λ (ids : List ℕ). length ids) named, ap count is, sum_by_more count xs i x low)
-
--- what isn't empty has an item
-pub some_there : (n : ℕ) → (n == 0) ≡ false → 1 ≤ n
-some_there n not = elim (cases_eq n 0) [
-  | inl is ↦ absurd (true≢false (sym ((unsigned_Decides n 0).1 is) ∙ not))
-  | inr other ↦ omega (arith, other)
-]

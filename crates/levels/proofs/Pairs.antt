@@ -84,9 +84,6 @@ module _ (g : Closure) (p q : ℕ) (a b : Cluster) (t : AreBetween g p q a b) wh
   pub no_way : is_ancestor g q p ≡ true → ⊥
   no_way up = not_linked (q ∷ [], (inr up, refl))
 
-  pub no_way_down : is_ancestor g p q ≡ true → ⊥
-  no_way_down up = not_linked (q ∷ [], (inl up, refl))
-
   pub both_listed : Lists (IsLinkedToEither g p q) members
   both_listed = record {
     rising = arranged_increasing (a.names ++ b.names) (distinct_joined a.names b.names t.first_once t.second_once t.apart);

@@ -27,6 +27,7 @@ use Rattle.cluster_store.proofs.Listed.{at_joined, at_none, at_one}
 use Rattle.levels.proofs.Ends.{got}
 use Rattle.levels.proofs.Found.{cluster_of}
 use Rattle.levels.proofs.Graphs.{in_above, names_of_above, order_of}
+use Rattle.levels.proofs.Lookups.{placed_of}
 use Rattle.levels.proofs.Losing.{drops_both, drops_one, drops_same, empty_of, pairs_joined, piece_in}
 use Rattle.levels.proofs.Making.{named_one}
 use Rattle.levels.proofs.Rests.{within_both, within_more, within_same}
@@ -307,14 +308,8 @@ module _ (w : ℕ) (shelf : Shelf) (order : IsInOrder w shelf) (ids : List ℕ) 
 
   old_at : (d : Cluster) → Contains olds d → (n : ℕ) × Contains outs n × (seen_at Top shelf.store.clusters n ≡ Some d)
   old_at d here =
-      let got : slice_get olds here.0 ≡ Some d = got_of olds here.0 d here.1 here.2 in
-      let low : here.0 < length outs = omega (arith, here.1, partway.left.at.count) in
-      (slice_index outs here.0, Contains-get_or outs here.0 0 low, partway.left.at.stand here.0 d got)
-    where
-      got_of : (xs : List Cluster) (i : ℕ) (x : Cluster) → i < length xs → get_or xs i x ≡ x → slice_get xs i ≡ Some x
-      got_of [] i x low is = absurd (omega (arith, low))
-      got_of (y ∷ ys) zero x low is = ap Some is
-      got_of (y ∷ ys) (suc i) x low is = got_of ys i x (omega (arith, low)) is
+      let at_outs = placed_of (seen_at Top shelf.store.clusters) outs olds d partway.left.at here in
+      (slice_index outs at_outs.place, at_outs.number, at_outs.stands)
 
   olds_whole : (d : Cluster) → Contains olds d → IsCluster (64 * w) d
   olds_whole d here = let one = old_at d here in order.top.whole one.0 d one.2

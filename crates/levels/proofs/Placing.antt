@@ -14,16 +14,13 @@ use Rattle.cluster.specs.Clusters.{Cluster, IsCluster}
 use Rattle.cluster.proofs.Placed.{in_names}
 use Rattle.cluster_store.specs.Laws.{Stands, StandsAt}
 use Rattle.cluster_store.specs.Stores.{Stored, Store, Shown, IsStore, no_part, parts_in, part_at, parts_of_level, passes, places_by, places_in, shown_at, shown_in}
-use Rattle.cluster_store.proofs.Before.{parts_stand_in_order}
+use Rattle.cluster_store.proofs.Before.{by_places, parts_stand_in_order}
 use Rattle.graphs.proofs.MergeLemmas.{precedes_filter, precedes_map}
 use Rattle.levels.proofs.Preceding.{precedes_both, unfiltered, unmapped}
 
 module _ (most : ℕ) (level : Level) (store : Store) (is : IsStore most store) where
   passing : ℕ × ℕ → Bool
   passing place = passes (is_in level) (finmap.get store.clusters place.0)
-
-  by_places : map (part_at store.clusters) (places_in level store) ≡ parts_of_level level store
-  by_places = sym (map-map (λ (s : Shown). s.part) (shown_at store.clusters) (places_in level store))
 
   stood_in : (place : ℕ × ℕ) (o : Option Stored) → finmap.get store.clusters place.0 ≡ o → passes (is_in level) o ≡ true → place.1 < length (parts_in o)
       → StandsAt level store.clusters place (part_at store.clusters place)
@@ -44,7 +41,7 @@ module _ (most : ℕ) (level : Level) (store : Store) (is : IsStore most store) 
   -- and each part of the level a place
   pub placed : (part : Part) → Contains (parts_of_level level store) part → (place : ℕ × ℕ) × StandsAt level store.clusters place part
   placed part here =
-      let place = map-Contains (part_at store.clusters) (places_in level store) part (subst (λ (ps : List Part). Contains ps part) (sym by_places) here) in
+      let place = map-Contains (part_at store.clusters) (places_in level store) part (subst (λ (ps : List Part). Contains ps part) (sym (by_places most level store is)) here) in
       (place.0, subst (StandsAt level store.clusters place.0) place.2 (stood place.0 place.1))
 
   -- what is shown stands at a place of its number
@@ -94,7 +91,7 @@ module _ (most : ℕ) (level : Level) (store : Store) (is : IsStore most store) 
   parts_before x y p q first second before =
       let in_level : Precedes (places_in level store) x y = precedes_filter passing store.order x y (passed_at x p first) (passed_at y q second) before in
       let of_places = precedes_map (part_at store.clusters) (places_in level store) x y in_level in
-      subst (λ (ps : List Part). Precedes ps p q) by_places
+      subst (λ (ps : List Part). Precedes ps p q) (by_places most level store is)
       (subst₂ (λ (a b : Part). Precedes (map (part_at store.clusters) (places_in level store)) a b) (part_is x p first) (part_is y q second) of_places)
 
   -- two places of the order with these parts
@@ -108,7 +105,7 @@ module _ (most : ℕ) (level : Level) (store : Store) (is : IsStore most store) 
   pub places_before : (p q : Part) → Precedes (parts_of_level level store) p q → HavePlaces p q
   unfolding passing places_by
   places_before p q before =
-      let m = unmapped (part_at store.clusters) (places_in level store) p q (subst (λ (ps : List Part). Precedes ps p q) (sym by_places) before) in
+      let m = unmapped (part_at store.clusters) (places_in level store) p q (subst (λ (ps : List Part). Precedes ps p q) (sym (by_places most level store is)) before) in
       let both = precedes_both (places_in level store) m.x m.y m.before in
       record {
         x = m.x;

@@ -41,9 +41,6 @@ pub record PointsTo (place number : ℕ) (names : List ℕ) (old new : Numbers) 
   pub pointed : (p : ℕ) (d : ℕ) → p < place → p < length names → finmap.get new (get_or names p d) ≡ Some number
   pub others : (id : ℕ) → (Contains names id → ⊥) → finmap.get new id ≡ finmap.get old id
 
-pub points_none : (number : ℕ) (names : List ℕ) (old : Numbers) → PointsTo 0 number names old old
-points_none number names old = record { pointed = λ p d none low. absurd (omega arith); others = λ id none. refl }
-
 pub points_more : (place number : ℕ) (names : List ℕ) (old mid new : Numbers) (id : ℕ) → PointsTo place number names old mid → Contains names id
     → ((d : ℕ) → get_or names place d ≡ id) → new ≡ finmap.insert mid id number → PointsTo (place + 1) number names old new
 points_more place number names old mid new id so here at is = record {
@@ -72,9 +69,6 @@ points_one_of number names old new so = record {
 pub record PointsAllTo (place : ℕ) (list : List ℕ) (clusters : List Cluster) (old new : Numbers) : Type 0 where
   pub pointed : (i id : ℕ) (c : Cluster) → i < place → slice_get clusters i ≡ Some c → Contains c.names id → finmap.get new id ≡ Some (slice_index list i)
   pub others : (id : ℕ) → (IsNamed clusters id → ⊥) → finmap.get new id ≡ finmap.get old id
-
-pub all_none : (list : List ℕ) (clusters : List Cluster) (old : Numbers) → PointsAllTo 0 list clusters old old
-all_none list clusters old = record { pointed = λ i id c none at here. absurd (omega arith); others = λ id none. refl }
 
 -- clusters of two places have no name in common
 places_apart : (clusters : List Cluster) (i j id : ℕ) (c d : Cluster) → AllPairs AreApart clusters

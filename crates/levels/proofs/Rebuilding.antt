@@ -48,10 +48,6 @@ in_front n xs x here out = elim (cases_lt here.0 n) [
 
 -- ---- the numbers of names
 
--- one name more goes
-pub loses_none : (gone : List ℕ) (old : Numbers) → Loses (take 0 gone) old old
-loses_none gone old = record { lost = λ id here. absurd (none_in_empty id here); others = λ id kept. refl }
-
 pub loses_more : (gone : List ℕ) (i : ℕ) (old mid new : Numbers) → i < length gone → Loses (take i gone) old mid
     → new ≡ finmap.remove mid (slice_index_or gone i 0) → Loses (take (i + 1) gone) old new
 loses_more gone i old mid new low so is =

@@ -20,7 +20,7 @@ use Rattle.levels.specs.Views.{View, IsIndexed}
 use Rattle.levels.proofs.Cutting.{Cuts}
 use Rattle.levels.proofs.Ends.{pairs_last}
 use Rattle.levels.proofs.Lookups.{decide_named, placed_of}
-use Rattle.levels.proofs.Regrouping.{Regroups, named_olds, olds_share, share_olds, share_out}
+use Rattle.levels.proofs.Regrouping.{Regroups, named_olds, share_olds, share_out}
 
 -- ---- the last of some clusters
 

@@ -21,17 +21,6 @@ share_turned rings m top x y right share = (right.zero y x).1 (elim ((right.zero
   | inr two ↦ inr (two.0, two.2, two.1)
 ])
 
-pub share_through : (rings : Ringed) (m top : Numbers) (x z y : ℕ) → AreRight rings m top → ShareMain rings x z → ShareMain rings z y → ShareMain rings x y
-share_through rings m top x z y right one two = elim ((right.zero x z).0 one) [
-  | inl first ↦ subst (λ k. ShareMain rings k y) (sym first.1) two
-  | inr first ↦ elim ((right.zero z y).0 two) [
-    | inl second ↦ subst (ShareMain rings x) second.1 one
-    | inr second ↦
-        let same : second.0 ≡ first.0 = same_Some second.0 first.0 (sym second.1 ∙ first.2) in
-        (right.zero x y).1 (inr (first.0, first.1, second.2 ∙ ap Some same))
-  ]
-]
-
 -- what the rings have where clusters of main went out and others came in
 pub record Regroups (olds news : List Cluster) (before after : Ringed) : Type 0 where
   pub names : (x : ℕ) → IsNamed after.book x ↔ ((IsNamed before.book x × (HasName olds x → ⊥)) ⊎ HasName news x)
@@ -135,9 +124,6 @@ module _ (most : ℕ) (outs made : List ℕ) (olds news : List Cluster) (gone : 
       | inl one ↦ (named.0, named.1, named.2, subst (Contains named.0.names) one.1 named.2)
       | inr of ↦ one_olds x y named of
     ]
-
-    pub olds_share : (x y : ℕ) → AreNamedOnce olds x y → ShareMain before x y
-    olds_share x y once = (right.zero x y).1 (inr (olds_one x y once))
 
     -- names that share are both of what went out, or neither is
     pub share_out : (x y : ℕ) → ShareMain before x y → (HasName olds x → ⊥) → HasName olds y → ⊥

@@ -18,7 +18,7 @@ use Rattle.levels.specs.Stays.{AllStay}
 use Rattle.levels.specs.Views.{graph_of}
 use Rattle.levels.proofs.Fees.{HasOneRate, HaveFee}
 use Rattle.levels.proofs.Finds.{indexed_at}
-use Rattle.levels.proofs.Graphs.{cases_number, member-number, rate-at}
+use Rattle.levels.proofs.Graphs.{cases_option, member-number, rate-at}
 use Rattle.levels.proofs.Rebuilt.{is_rebuilt}
 use Rattle.levels.proofs.Staying.{AreAway, LevelKeeps, one_away, rebuilt_stays}
 use Rattle.levels.proofs.Unmoved.{all_stay, same_keeps, same_one}
@@ -57,7 +57,7 @@ module _ (w : ℕ) (old new : Shelf) (before : IsInOrder w old) (after : IsInOrd
   sets_at Top = sets.top
 
   fee_keeps : (level : Level) → HasOtherFee id fee level old → LevelKeeps (one_of level old) (one_of level new)
-  fee_keeps level other = elim (cases_number (finmap.get (numbers_at level old) id)) [
+  fee_keeps level other = elim (cases_option (finmap.get (numbers_at level old) id)) [
     | inl none ↦
         same_keeps (one_of level old) (one_of level new) (same_one w old new before after level level (same_numbers level) ((sets_at level).away none))
     | inr some ↦
@@ -71,9 +71,6 @@ module _ (w : ℕ) (old new : Shelf) (before : IsInOrder w old) (after : IsInOrd
         (fee_away c at.0 (graph_of (view_of level old)) (graph_of (view_of level new)) r at.1 id fee stands.here at.2
         (other (member-number (view_of level old) id ∙ ap is_some some.1)))
   ]
-
-  pub fees_stay : (issued later : ℕ) → ((level : Level) → HasOtherFee id fee level old) → AllStay (levels_of old issued) (levels_of new later)
-  fees_stay issued later other = all_stay w old new before after issued later (λ level. fee_keeps level (other level))
 
   -- ---- where nothing changes that has the fee already
 
@@ -93,7 +90,7 @@ module _ (w : ℕ) (old new : Shelf) (before : IsInOrder w old) (after : IsInOrd
     have_fee level n c first same other m d is at = ap (λ (rate : FeeRate). rate.fee) (one_rate other level m n d c (is, at) first) ∙ same
 
     level_told : (HaveFee id fee old → new ≡ old) → (level : Level) → LevelKeeps (one_of level old) (one_of level new)
-    level_told still level = elim (cases_number (finmap.get (numbers_at level old) id)) [
+    level_told still level = elim (cases_option (finmap.get (numbers_at level old) id)) [
       | inl none ↦ fee_keeps level (λ member. absurd (true≢false (sym member ∙ member-number (view_of level old) id ∙ ap is_some none)))
       | inr some ↦
           let stands = (indexed_at w old before level).stands id some.0 some.1 in

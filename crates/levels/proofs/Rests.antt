@@ -12,8 +12,9 @@ use Rattle.lists.proofs.Cases.{clash, false_from_not}
 use Rattle.lists.proofs.Distinct.{distinct_joined, distinct_apart, distinct-append_left, distinct-append_right}
 use Rattle.lists.proofs.Entries.{Contains-filter, filter-Contains}
 use Rattle.lists.proofs.Flats.{flat_has, flat_of}
-use Rattle.lists.proofs.Walks.{Walk-back, Walk-first, Walk-keeps, Walk-map}
+use Rattle.lists.proofs.Walks.{Walk-first, Walk-keeps, Walk-map}
 use Rattle.graphs.specs.Closures.{Closure, IsOrder, is_member, is_ancestor, IsRelated, AreLinked}
+use Rattle.graphs.proofs.ClosingLemmas.{linked_back, related_back}
 use Rattle.cluster.specs.Changes.{AreComponents, AreNearLeft, IsLeft}
 use Rattle.cluster.specs.Clusters.{Cluster, IsCluster}
 use Rattle.cluster.specs.Steps.{most_steps, most_steps_of}
@@ -42,10 +43,6 @@ module _ {A : Type 0} (p : List A → Bool) where
 
 -- ---- the lists of some components, and the others
 
-turn : (g : Closure) (a b : ℕ) → IsRelated g a b → IsRelated g b a
-turn g a b (inl up) = inr up
-turn g a b (inr down) = inl down
-
 -- A test that is alike on related names passes names that are gone, and others that are gone fail it.
 module _ (g : Closure) (test : ℕ → Bool) (closed : (a b : ℕ) → IsRelated g a b → test a ≡ true → test b ≡ true) (done run : List ℕ)
     (inside : (id : ℕ) → Contains run id → test id ≡ true) (outside : (id : ℕ) → Contains done id → test id ≡ true → ⊥)
@@ -63,7 +60,7 @@ module _ (g : Closure) (test : ℕ → Bool) (closed : (a b : ℕ) → IsRelated
   others = filter misses lists
 
   linked_out : (a b : ℕ) → AreLinked g a b → test b ≡ true → test a ≡ true
-  linked_out a b linked here = Walk-keeps (IsRelated g) (λ x. test x ≡ true) closed b a (Walk-back (IsRelated g) (turn g) a b linked) here
+  linked_out a b linked here = Walk-keeps (IsRelated g) (λ x. test x ≡ true) closed b a (linked_back g a b linked) here
 
   -- what is gone of both is gone of the names that pass, or of the others
   pub gone_in : (id : ℕ) → Contains (done ++ run) id → test id ≡ true → Contains run id
@@ -134,7 +131,7 @@ module _ (g : Closure) (test : ℕ → Bool) (closed : (a b : ℕ) → IsRelated
 
   more : (a b : ℕ) → (test a ≡ true → ⊥) → AreNearLeft g done a b → AreNearLeft g (done ++ run) a b
   more a b away near =
-      let apart : test b ≡ true → ⊥ = λ there. away (closed b a (turn g a b near.2) there) in (
+      let apart : test b ≡ true → ⊥ = λ there. away (closed b a (related_back g a b near.2) there) in (
         (near.0.0, λ either. near.0.1 (gone_out a either away)),
         (near.1.0, λ either. near.1.1 (gone_out b either apart)),
         near.2,

@@ -11,7 +11,8 @@ use Rattle.levels.specs.Rings.{Ringed, AreRight, IsHeld, IsMarked, ShareMain}
 use Rattle.levels.specs.Shelves.{Shelf, numbers_at, seen_at, view_of}
 use Rattle.levels.specs.Tops.{TopRebuilds}
 use Rattle.levels.specs.Views.{IsIndexed, Numbers}
-use Rattle.levels.proofs.Lookups.{decide_named, found_of, place_of, placed_of}
+use Rattle.cluster_store.proofs.Arriving.{place_of}
+use Rattle.levels.proofs.Lookups.{decide_named, found_of, placed_of}
 use Rattle.levels.proofs.Pointing.{one_at}
 use Rattle.levels.proofs.Seen.{one_seen}
 
@@ -21,10 +22,6 @@ same_or None None = inl refl
 same_or None (Some n) = inr (λ is. none-some n is)
 same_or (Some n) None = inr (λ is. none-some n (sym is))
 same_or (Some n) (Some m) = elim (cases_eq n m) [ inl same ↦ inl (ap Some same) | inr other ↦ inr (λ is. other (same_Some n m is)) ]
-
-pub some_is : (o : Option ℕ) → IsSome o → (n : ℕ) × (o ≡ Some n)
-some_is None some = absurd (true≢false (sym some))
-some_is (Some n) some = (n, refl)
 
 -- What the rings have after names were touched, and others went.
 pub record Marks (Leaves Lost : ℕ → Type 0) (old new : Ringed) : Type 0 where

@@ -15,18 +15,6 @@ use Rattle.cluster_store.specs.Changes.{Sets, moved_to}
 use Rattle.levels.specs.Changes.{AreAt}
 use Rattle.levels.specs.Shelves.{AllHave, StandsInTop, left_of, seen_in, seen_at, stored_at, tag_at, top_tag}
 
--- what is stored under a number that has something
-pub some_stored : (o : Option Stored) → IsSome o → (s : Stored) × (o ≡ Some s)
-some_stored None some = absurd (true≢false (sym some))
-some_stored (Some s) some = (s, refl)
-
-pub seen_stored : (level : Level) (clusters : Numbered) (number : ℕ) (s : Stored) → finmap.get clusters number ≡ Some s → is_in level s.tag ≡ true
-    → seen_at level clusters number ≡ Some s.cluster
-seen_stored level clusters number s is there = ap (seen_in level) is ∙ ap (λ b. cond b (Some s.cluster) None) there
-
-pub free_unseen : (level : Level) (clusters : Numbered) (number : ℕ) → finmap.get clusters number ≡ None → seen_at level clusters number ≡ None
-free_unseen level clusters number free = ap (seen_in level) free
-
 -- what is seen in a level is stored
 pub seen_is_stored : (level : Level) (clusters : Numbered) (number : ℕ) (c : Cluster)
     → seen_at level clusters number ≡ Some c → stored_at clusters number ≡ Some c
@@ -51,10 +39,6 @@ both_seen level clusters both number = from (finmap.get clusters number) (λ s i
     from : (o : Option Stored) → ((s : Stored) → o ≡ Some s → s.tag ≡ Both) → seen_in level o ≡ option_map (λ (s : Stored). s.cluster) o
     from None all = refl
     from (Some s) all = ap (λ t. cond (is_in level t) (Some s.cluster) None) (all s refl) ∙ ap (λ b. cond b (Some s.cluster) None) (in_each level)
-
-pub same_seen : (level : Level) (old new : Numbered) (number : ℕ)
-    → finmap.get new number ≡ finmap.get old number → seen_at level new number ≡ seen_at level old number
-same_seen level old new number same = ap (seen_in level) same
 
 -- what is seen under a number in both levels is one cluster
 pub one_seen : (a b : Level) (clusters : Numbered) (number : ℕ) (c d : Cluster)

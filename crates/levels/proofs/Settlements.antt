@@ -22,7 +22,9 @@ use Rattle.levels.specs.Kept.{SuitsShelf}
 use Rattle.levels.specs.Settling.{AreSettling, IsDone, MakesMain, Settles, SettlesAll}
 use Rattle.levels.specs.Shelves.{Shelf, IsInOrder, numbers_at, view_of}
 use Rattle.levels.specs.Views.{IsIndexed, View}
-use Rattle.levels.proofs.Righting.{same_or, some_is}
+use Rattle.levels.proofs.Graphs.{one_cluster, stands_in}
+use Rattle.name_book.proofs.Entries.{some_key}
+use Rattle.levels.proofs.Righting.{same_or}
 use Rattle.levels.proofs.Seen.{one_seen}
 use Rattle.levels.proofs.Standing.{indexed_at}
 
@@ -39,26 +41,11 @@ out_done Main rings x out = tt
 out_done Top rings x out = out
 
 module _ (stays : Level) (most : ℕ) (view : View) (indexed : IsIndexed most view) where
-  one_cluster : (n : ℕ) (c d : Cluster) → view.at n ≡ Some c → view.at n ≡ Some d → c ≡ d
-  one_cluster n c d at_c at_d = same_Some c d (sym at_c ∙ at_d)
-
-  -- two clusters with a name in common are one
-  shared_cluster : (n m x : ℕ) (c d : Cluster) → view.at n ≡ Some c → view.at m ≡ Some d → Contains c.names x → Contains d.names x → c ≡ d
-  shared_cluster n m x c d at_n at_m here there =
-      let same : n ≡ m = same_Some n m (sym (indexed.listed n x c at_n here) ∙ indexed.listed m x d at_m there) in
-      same_Some c d (sym at_n ∙ ap view.at same ∙ at_m)
-
-  -- a name with the number of a cluster is one of its names
-  in_cluster : (n x : ℕ) (c : Cluster) → view.at n ≡ Some c → finmap.get view.numbers x ≡ Some n → Contains c.names x
-  in_cluster n x c at_n has =
-      let stands = indexed.stands x n has in
-      subst (λ (d : Cluster). Contains d.names x) (one_cluster n stands.cluster c stands.there at_n) stands.here
-
   -- a touched name that the level hasn't is dropped
   module _ (id : ℕ) (old new : Ringed) (so : AreSettling stays old view) (gone : finmap.get view.numbers id ≡ None) (drops : Drops id old new) where
     numbered : (x : ℕ) → IsSome (finmap.get view.numbers x) → x ≢ id
     numbered x some same =
-        let at = some_is (finmap.get view.numbers x) some in
+        let at = some_key (finmap.get view.numbers x) some in
         none-some at.0 (sym gone ∙ ap (finmap.get view.numbers) (sym same) ∙ at.1)
 
     listed : (n x : ℕ) (c : Cluster) → view.at n ≡ Some c → Contains c.names x → x ≢ id
@@ -83,14 +70,6 @@ module _ (stays : Level) (most : ℕ) (view : View) (indexed : IsIndexed most vi
           );
     }
 
-    pub drop_settles : Settles id old new
-    drop_settles = record {
-      out = λ marked. ((drops.touched id).0 marked).1 refl;
-      fewer = λ x marked. ((drops.touched x).0 marked).0;
-      few = omega (arith, drops.len);
-      issued = drops.issued;
-    }
-
   -- the names of a cluster of the level are released
   module _ (number id : ℕ) (c : Cluster) (at_number : view.at number ≡ Some c) (here : Contains c.names id) (old new : Ringed)
       (so : AreSettling stays old view) (marked_id : IsMarked old id) (settles : SettlesAll stays c.names old new) where
@@ -100,7 +79,7 @@ module _ (stays : Level) (most : ℕ) (view : View) (indexed : IsIndexed most vi
     -- another cluster has none of its names
     outside : (n x y : ℕ) (d : Cluster) → view.at n ≡ Some d → Contains d.names x → (Contains c.names x → ⊥) → Contains d.names y → Contains c.names y → ⊥
     outside n x y d at_n in_d out there in_c =
-        out (subst (λ (e : Cluster). Contains e.names x) (shared_cluster n number y d c at_n at_number there in_c) in_d)
+        out (subst (λ (e : Cluster). Contains e.names x) (one_cluster most view indexed n number y d c at_n at_number there in_c) in_d)
 
     live : (x : ℕ) → IsNamed new.book x ↔ (IsSome (finmap.get view.numbers x) ⊎ IsMarked new x)
     live x = (
@@ -123,7 +102,7 @@ module _ (stays : Level) (most : ℕ) (view : View) (indexed : IsIndexed most vi
         (λ share. was.0 ((main x y).0 share), λ there. (main x y).1 (was.1 there))
     ring Top is main n x d at_n in_d done y = elim (told_number c.names x) [
       | inl in_c ↦
-          let one : d ≡ c = shared_cluster n number x d c at_n at_number in_d in_c in (
+          let one : d ≡ c = one_cluster most view indexed n number x d c at_n at_number in_d in_c in (
             λ share. elim ((main x y).0 share) [
               | inl all ↦ absurd (all.1 in_c)
               | inr both ↦ subst (λ (e : Cluster). Contains e.names y) (sym one) both.1
@@ -165,7 +144,7 @@ module _ (stays : Level) (most : ℕ) (view : View) (indexed : IsIndexed most vi
     zero = λ a b. (
       λ share. elim ((so.names a).0 share.from) [
         | inl some ↦
-            let at = some_is (finmap.get view.numbers a) some in
+            let at = some_key (finmap.get view.numbers a) some in
             let stands = indexed.stands a at.0 at.1 in
             let there = (so.zero at.0 a stands.cluster stands.there stands.here (out_done stays rings a (out a)) b).0 share in
             inr (at.0, at.1, indexed.listed at.0 b stands.cluster stands.there there)
@@ -176,7 +155,7 @@ module _ (stays : Level) (most : ℕ) (view : View) (indexed : IsIndexed most vi
         | inr two ↦
             let stands = indexed.stands a two.0 two.1 in
             (so.zero two.0 a stands.cluster stands.there stands.here (out_done stays rings a (out a)) b).1
-            (in_cluster two.0 b stands.cluster stands.there two.2)
+            (stands_in most view two.0 b stands.cluster indexed two.2 stands.there)
       ],
     );
     touched = λ x. (λ marked. absurd (out x marked), λ apart. absurd (apart refl));
@@ -258,8 +237,8 @@ module _ (w : ℕ) (stays : Level) (rings : Ringed) (shelf : Shelf) (order : IsI
         let to_main : (z : ℕ) → Contains c.names z → finmap.get shelf.main z ≡ Some n = λ z in_c.
         same_cluster w shelf order stays Main n x z (indexed.listed n x c at_n here) main_x (indexed.listed n z c at_n in_c) in
         let from_main : (z : ℕ) → finmap.get shelf.main z ≡ Some n → Contains c.names z = λ z has.
-        in_cluster stays (64 * w) level indexed n z c at_n
-        (same_cluster w shelf order Main stays n x z main_x (indexed.listed n x c at_n here) has) in (
+        stands_in (64 * w) level n z c indexed
+        (same_cluster w shelf order Main stays n x z main_x (indexed.listed n x c at_n here) has) at_n in (
           λ share. elim ((suits.zero x y).0 share) [
             | inl one ↦ subst (Contains c.names) one.1 here
             | inr two ↦ from_main y (two.2 ∙ sym two.1 ∙ main_x)

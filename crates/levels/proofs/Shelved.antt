@@ -16,7 +16,8 @@ use Rattle.levels.specs.Shelves.{AllHave, Shelf, IsInOrder, levels_of, one_of, s
 use Rattle.levels.specs.Tops.{TopRebuilds}
 use Rattle.levels.specs.Views.{View, IsIndexed, Numbers, graph_of}
 use Rattle.levels.proofs.Rebuilt.{indexed_rebuilt}
-use Rattle.levels.proofs.Seen.{both_seen, seen_stored}
+use Rattle.cluster_store.proofs.Seen.{seen_stored}
+use Rattle.levels.proofs.Seen.{both_seen}
 
 -- two views are one where the numbers are the same, and the cluster under each number
 pub same_view : (a b : View) → b.numbers ≡ a.numbers → ((n : ℕ) → b.at n ≡ a.at n) → b ≡ a

@@ -12,7 +12,7 @@ use Rattle.staging.specs.Maps.{Maps, map_of}
 use Rattle.levels.specs.Shelves.{Shelf, IsInOrder, no_clusters, numbers_at, seen_at, view_of}
 use Rattle.levels.specs.Views.{IsIndexed}
 use Rattle.levels.proofs.Calls.{shelf_of}
-use Rattle.levels.proofs.Seen.{free_unseen}
+use Rattle.cluster_store.proofs.Seen.{free_unseen}
 
 pub indexed_at : (w : ℕ) (level : Level) (shelf : Shelf) → IsInOrder w shelf → IsIndexed (64 * w) (view_of level shelf)
 indexed_at w Main shelf order = order.main

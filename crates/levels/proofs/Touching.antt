@@ -20,20 +20,14 @@ use Rattle.levels.specs.Shelves.{Shelf, IsInOrder, numbers_at, seen_at, stored_a
 use Rattle.levels.specs.Tops.{TopRebuilds}
 use Rattle.levels.specs.Views.{Numbers}
 use Rattle.levels.proofs.Leaving.{left_is, none_left}
-use Rattle.levels.proofs.Lookups.{place_of}
+use Rattle.cluster_store.proofs.Arriving.{place_of}
 use Rattle.name_book.proofs.Named.{named-same}
 use Rattle.levels.proofs.Pointing.{one_at}
-use Rattle.levels.proofs.Seen.{one_seen, seen_stored}
+use Rattle.cluster_store.proofs.Seen.{seen_stored}
+use Rattle.levels.proofs.Seen.{one_seen}
 use Rattle.levels.proofs.Shelved.{cases_staging, none_of}
 
 -- ---- the names of a number
-
-pub tagged_stored : (clusters : Numbered) (number : ℕ) (t : Tag) → tag_at clusters number ≡ Some t → IsSome (stored_at clusters number)
-tagged_stored clusters number t is = from (finmap.get clusters number) is
-  where
-    from : (o : Option Stored) → option_map (λ (s : Stored). s.tag) o ≡ Some t → IsSome (option_map (λ (s : Stored). s.cluster) o)
-    from None e = absurd (none-some t e)
-    from (Some s) e = refl
 
 pub left_names : (shelf : Shelf) (number : ℕ) (c : Cluster) → tag_at shelf.store.clusters number ≡ Some MainOnly
     → stored_at shelf.store.clusters number ≡ Some c → (x : ℕ) → LeftMain shelf number x ↔ Contains c.names x
@@ -59,9 +53,6 @@ left_listed shelf number c names tag stored same x = (
   λ left. subst (λ (xs : List ℕ). Contains xs x) (sym same) ((left_names shelf number c tag stored x).0 left),
   λ here. (left_names shelf number c tag stored x).1 (subst (λ (xs : List ℕ). Contains xs x) same here),
 )
-
-pub not_left : (shelf : Shelf) (number x : ℕ) → (tag_at shelf.store.clusters number ≡ Some MainOnly → ⊥) → LeftMain shelf number x → ⊥
-not_left shelf number x other left = other (ap (option_map (λ (s : Stored). s.tag)) left.1)
 
 -- ---- rings
 
@@ -96,15 +87,6 @@ touches_alike These Those old new same touches = record {
   );
   spare = touches.spare;
   issued = touches.issued;
-}
-
-pub touches_none : (These : ℕ → Type 0) (rings : Ringed) → ((x : ℕ) → These x → ⊥) → Touches These rings rings
-touches_none These rings none = record {
-  names = refl;
-  main = λ x y. (λ share. share, λ share. share);
-  touched = λ x. (λ marked. inl marked, λ either. elim either [ inl was ↦ was | inr here ↦ absurd (none x here) ]);
-  spare = refl;
-  issued = refl;
 }
 
 pub right_kept : (old new : Ringed) (main top : Numbers) → KeepsAll old new → AreRight old main top → AreRight new main top

@@ -17,7 +17,7 @@ use Rattle.levels.specs.Tops.{TopRebuilds}
 use Rattle.levels.specs.Views.{Numbers, graph_of}
 use Rattle.levels.proofs.Closing.{adds_name, sets_fee}
 use Rattle.levels.proofs.Finds.{alike, indexed_at}
-use Rattle.levels.proofs.Graphs.{cases_number, member-number}
+use Rattle.levels.proofs.Graphs.{cases_option, member-number}
 use Rattle.levels.proofs.Lookups.{placed_of}
 use Rattle.levels.proofs.Rebuilt.{is_rebuilt}
 use Rattle.levels.proofs.Saying.{adds_pair, drops_away, loses_names, pair_away}
@@ -152,7 +152,7 @@ module _ (w issued : ℕ) (old new : Shelf) (before : IsInOrder w old) (after : 
 
   fee_of : (level : Level) (id : ℕ) (fee : ℤ) → numbers_at level new ≡ numbers_at level old → SetsFeeAt w id fee level old new
       → SetsFeeOf id fee (one_of level old) (one_of level new)
-  fee_of level id fee numbers sets = elim (cases_number (finmap.get (numbers_at level old) id)) [
+  fee_of level id fee numbers sets = elim (cases_option (finmap.get (numbers_at level old) id)) [
     | inl none ↦ fee_away w id fee level old new before after numbers none (sets.away none)
     | inr some ↦
         let stands = (indexed_at w old before level).stands id some.0 some.1 in

@@ -22,20 +22,12 @@ nothing_keeps level = record { parts = λ part of. (λ here. here, λ here. here
 pub same_keeps : (old new : OneLevel) → new ≡ old → LevelKeeps old new
 same_keeps old new same = subst (LevelKeeps old) (sym same) (nothing_keeps old)
 
-pub nothing_stays : (levels : Levels) → AllStay levels levels
-nothing_stays levels level = nothing_keeps (level_at levels level)
-
 -- each level is as it was
 pub alike_all_stay : (old new : Levels) → ((level : Level) → level_at new level ≡ level_at old level) → AllStay old new
 alike_all_stay old new same level = same_keeps (level_at old level) (level_at new level) (same level)
 
 pub same_all_stay : (old new : Levels) → new ≡ old → AllStay old new
 same_all_stay old new same = alike_all_stay old new (λ level. ap (λ (l : Levels). level_at l level) same)
-
--- a call that fails leaves all as it was
-pub all_stay_on : {T E : Type 0} (result : Result T E) (old new : Levels) → OnOk result (AllStay old new) → OnErr result (new ≡ old) → AllStay old new
-all_stay_on (Ok x) old new stay same = stay
-all_stay_on (Err e) old new stay same = same_all_stay old new same
 
 -- ---- two shelves
 

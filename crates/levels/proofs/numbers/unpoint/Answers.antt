@@ -2,7 +2,7 @@
 use Rattle.std.proofs.Common.{rules, ◌≡◌, ◌<◌, length, slice_index_or, arith, ◌∙◌, take}
 use Rattle.staging.specs.Maps.{top_of}
 use Rattle.levels.proofs.Pointing.{base_more}
-use Rattle.levels.proofs.Rebuilding.{loses_more, loses_none}
+use Rattle.levels.proofs.Rebuilding.{loses_more}
 use Rattle.levels.proofs.numbers.unpoint.Goals as goal
 
 pub loop-id-preserved : goal.loop-id-preserved
