@@ -4,7 +4,7 @@ use Rattle.std.proofs.lemmas.Bool.{cases_eq, false_from_ne_true, and_right, or_l
 use Rattle.std.specs.FinMap as finmap
 use Rattle.std.specs.FinSet as set
 use Rattle.std.specs.Ordering.{nat_cmp}
-use Rattle.lists.proofs.Cases.{or_false}
+use Rattle.lists.proofs.Cases.{none_of, or_false}
 use Rattle.lists.proofs.Entries.{Contains-head, Contains-cases, none_in_empty}
 use Rattle.lists.proofs.Told.{told_number}
 use Rattle.fee_rate.specs.declared.rates.FeeRate.{FeeRate}
@@ -41,10 +41,6 @@ above_absent g a q none = ap (λ (o : Option Node). set.contains (ancestors_in o
 pub absent_member : (g : Closure) (q : ℕ) → is_member g q ≡ false → finmap.get g q ≡ None
 unfolding is_member
 absent_member g q absent = none_of (finmap.get g q) absent
-  where
-    none_of : (o : Option Node) → is_some o ≡ false → o ≡ None
-    none_of None e = refl
-    none_of (Some n) e = absurd (true≢false e)
 
 -- what descends from a name of a cluster is of the cluster
 pub below_in : (g : Closure) (q d : ℕ) (c : Cluster) → IsClusterOf g q c → is_ancestor g q d ≡ true → Contains c.names d

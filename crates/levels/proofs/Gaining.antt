@@ -3,6 +3,7 @@ use Rattle.std.proofs.Common.{◌≡◌, ◌≢◌, ◌↔◌, ℕ, zero, suc, �
 use Rattle.std.specs.Prelude.{unwrap_or, MatchOption}
 use Rattle.std.proofs.lemmas.Option.{none-some}
 use Rattle.std.specs.FinMap as finmap
+use Rattle.lists.proofs.Cases.{none_of}
 use Rattle.lists.proofs.Entries.{Contains-head, Contains-cases, none_in_empty}
 use Rattle.fee_rate.specs.declared.rates.FeeRate.{FeeRate}
 use Rattle.graphs.specs.declared.names.Level.TheVariants.{Main, Top}
@@ -15,13 +16,14 @@ use Rattle.levels.specs.Changes as changes
 use Rattle.levels.specs.Kept.{SuitsShelf}
 use Rattle.levels.specs.Moves.{AddsTop}
 use Rattle.levels.specs.Rings.{Ringed, AreRight}
-use Rattle.levels.specs.Shelves.{Shelf, IsInOrder, numbers_at, seen_at}
+use Rattle.levels.specs.Shelves.{Shelf, IsInOrder, numbers_at, seen_at, view_of}
 use Rattle.levels.specs.Tops.{HasFront, IsMade}
 use Rattle.levels.specs.Views.{Numbers}
-use Rattle.cluster_store.proofs.Listed.{at_none}
-use Rattle.levels.proofs.Making.{covers_new, olds_are, one_made}
-use Rattle.levels.proofs.Naming.{right_added, right_added_staged}
-use Rattle.levels.proofs.Touching.{right_kept, same_named}
+use Rattle.cluster_store.proofs.Listed.{at_none, only_one}
+use Rattle.levels.proofs.Making.{covers_new, named_one, olds_are, one_made, one_named}
+use Rattle.levels.proofs.Naming.{right_added_staged}
+use Rattle.levels.proofs.Regrouping.{Regroups, right_regrouped}
+use Rattle.levels.proofs.Touching.{in_one, right_kept, same_named}
 
 -- ---- room that was made
 
@@ -66,28 +68,43 @@ adds_made w id rate made number c old new single absent is =
 
 -- ---- where it came in
 
-none_staged : (o : Option Numbers) → false ≡ is_some o → o ≡ None
-none_staged None is = refl
-none_staged (Some m) is = absurd (true≢false (sym is))
+module _ (w id : ℕ) (rate : FeeRate) (old new : Shelf) (before : IsInOrder w old) (after : IsInOrder w new) (adds : AddsTop w id rate old new) where
+  -- the cluster that came in has the name alone
+  only : (x : ℕ) → changes.IsNamed (adds.now ∷ []) x → x ≡ id
+  only x named = only_one id x (subst (λ xs. Contains xs x) adds.single.names (named_one adds.now x named))
 
-module _ (w id : ℕ) (rate : FeeRate) (old new : Shelf) (before : IsInOrder w old) (adds : AddsTop w id rate old new) where
+  its_name : (x : ℕ) → x ≡ id → Contains adds.now.names x
+  its_name x same = subst (λ xs. Contains xs x) (sym adds.single.names) (subst (Contains (id ∷ [])) (sym same) (Contains-head id []))
+
   points : PointsOne adds.made (id ∷ []) (numbers_at Top old) (numbers_at Top new)
   points = record {
-    pointed = λ q here. adds.rebuilds.top.points.pointed 0 q adds.now refl (subst (λ xs. Contains xs q) (sym adds.single.names) here);
-    others = λ q out. adds.rebuilds.top.points.others q (λ (named : changes.IsNamed (adds.now ∷ []) q).
-        elim (Contains-cases adds.now named.0 [] named.1) [
-          | inl same ↦ out (subst (λ xs. Contains xs q) (ap (λ (c : Cluster). c.names) (sym same) ∙ adds.single.names) named.2)
-          | inr none ↦ none_in_empty named.0 none
-        ]) (none_in_empty q);
+    pointed = λ q here. adds.rebuilds.top.points.pointed 0 q adds.now refl (its_name q (only_one id q here));
+    others = λ q out.
+        adds.rebuilds.top.points.others q (λ named. out (subst (Contains (id ∷ [])) (sym (only q named)) (Contains-head id []))) (none_in_empty q);
   }
 
-  free : (x : ℕ) → finmap.get (numbers_at Top old) x ≢ Some adds.made
-  free x is =
-      let at = before.top.stands x adds.made is in
-      elim (adds.rebuilds.top.exchanges.room adds.made (Contains-head adds.made [])) [
-        | inl out ↦ none_in_empty adds.made out
-        | inr none ↦ none-some at.cluster (sym none ∙ at.there)
-      ]
+  -- nothing went out, and the one cluster came in
+  regroups : (rings later : Ringed) → Gains false id rings later → Regroups [] (adds.now ∷ []) rings later
+  regroups rings later gains = record {
+    names = λ x. (
+      λ named. elim ((gains.names x).0 named) [ inl was ↦ inl (was, none_out x) | inr same ↦ inr (one_named adds.now x (its_name x same)) ],
+      λ either. (gains.names x).1 (elim either [ inl was ↦ inl was.0 | inr named ↦ inr (only x named) ]),
+    );
+    main = λ x y. (
+      λ share. elim ((gains.main x y).0 share) [
+        | inl was ↦ inl (was, none_out x, none_out y)
+        | inr both ↦ inr (adds.now, Contains-head adds.now [], its_name x both.0, its_name y both.1)
+      ],
+      λ either. (gains.main x y).1 (elim either [
+        | inl was ↦ inl was.0
+        | inr once ↦ inr (only x (once.0, once.1, once.2), only y (once.0, once.1, once.3))
+      ]),
+    );
+    touched = λ x marked. elim ((gains.touched x).0 marked) [ inl was ↦ was | inr both ↦ absurd (true≢false (sym both.0)) ];
+  }
+    where
+      none_out : (x : ℕ) → changes.IsNamed [] x → ⊥
+      none_out x named = none_in_empty named.0 named.1
 
   pub right_gained : (rings later : Ringed) → SuitsShelf rings old → finmap.get old.main id ≡ None → (staged : Bool) → staged ≡ is_some new.staging
       → Gains staged id rings later → SuitsShelf later new
@@ -96,8 +113,6 @@ module _ (w id : ℕ) (rate : FeeRate) (old new : Shelf) (before : IsInOrder w o
       subst (λ (m : Numbers). AreRight later m (numbers_at Top new)) (sym (adds.rebuilds.base some))
       (right_added_staged id adds.made old.main (numbers_at Top old) (numbers_at Top new) lacks adds.absent points rings later right gains)
   right_gained rings later right lacks false is gains =
-      let none = none_staged new.staging is in
-      let first = none_staged old.staging (is ∙ adds.rebuilds.staged) in
-      let one : old.main ≡ numbers_at Top old = sym (ap (λ o. unwrap_or o old.main) first) in
-      subst (λ (m : Numbers). AreRight later m (numbers_at Top new)) (ap (λ o. unwrap_or o new.main) none)
-      (right_added id adds.made old.main (numbers_at Top old) (numbers_at Top new) lacks adds.absent points rings later right one free gains)
+      (in_one later new (none_of new.staging (sym is))).1
+      (right_regrouped (64 * w) [] (adds.made ∷ []) [] (adds.now ∷ []) [] (view_of Top old) (view_of Top new) before.top after.top adds.rebuilds.top
+      rings ((in_one rings old (none_of old.staging (sym (is ∙ adds.rebuilds.staged)))).0 right) later (regroups rings later gains))

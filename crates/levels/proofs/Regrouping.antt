@@ -9,6 +9,7 @@ use Rattle.levels.specs.Changes.{Rebuilds}
 use Rattle.levels.specs.Changes.{IsNamed as HasName}
 use Rattle.levels.specs.Rings.{Ringed, AreNamedOnce, AreOfOne, AreRight, IsMarked, ShareMain}
 use Rattle.levels.specs.Views.{View, IsIndexed, Numbers}
+use Rattle.levels.proofs.Graphs.{stands_in}
 use Rattle.levels.proofs.Lookups.{decide_named, placed_of}
 
 -- what is right where both levels have the same numbers
@@ -30,12 +31,6 @@ pub record Regroups (olds news : List Cluster) (before after : Ringed) : Type 0 
 
 module _ (most : ℕ) (outs made : List ℕ) (olds news : List Cluster) (gone : List ℕ) (old new : View) (indexed : IsIndexed most old)
     (now : IsIndexed most new) (r : Rebuilds most outs made olds news gone old new) where
-  -- a name with the number of a cluster is of it
-  mate : (view : View) → IsIndexed most view → (n y : ℕ) (d : Cluster) → view.at n ≡ Some d → finmap.get view.numbers y ≡ Some n → Contains d.names y
-  mate view right n y d at is =
-      let stands = right.stands y n is in
-      subst (λ (e : Cluster). Contains e.names y) (same_Some stands.cluster d (sym stands.there ∙ at)) stands.here
-
   -- ---- what went out
 
   pub olds_one : (x y : ℕ) → AreNamedOnce olds x y → AreOfOne old.numbers x y
@@ -48,7 +43,7 @@ module _ (most : ℕ) (outs made : List ℕ) (olds news : List Cluster) (gone : 
       let at = placed_of old.at outs olds named.0 r.taken named.1 in
       let same : of.0 ≡ slice_index outs at.place =
       same_Some of.0 (slice_index outs at.place) (sym of.1 ∙ indexed.listed (slice_index outs at.place) x named.0 at.stands named.2) in
-      (named.0, named.1, named.2, mate old indexed of.0 y named.0 (ap old.at same ∙ at.stands) of.2)
+      (named.0, named.1, named.2, stands_in most old of.0 y named.0 indexed of.2 (ap old.at same ∙ at.stands))
 
   -- ---- what came in
 
@@ -62,7 +57,7 @@ module _ (most : ℕ) (outs made : List ℕ) (olds news : List Cluster) (gone : 
       let at = placed_of new.at made news named.0 r.exchanges.stand named.1 in
       let same : of.0 ≡ slice_index made at.place =
       same_Some of.0 (slice_index made at.place) (sym of.1 ∙ r.points.pointed at.place x named.0 at.listed named.2) in
-      (named.0, named.1, named.2, mate new now of.0 y named.0 (ap new.at same ∙ at.stands) of.2)
+      (named.0, named.1, named.2, stands_in most new of.0 y named.0 now of.2 (ap new.at same ∙ at.stands))
 
   -- ---- all else stays
 

@@ -83,7 +83,7 @@ returns-clause-added g c = adds g c
 
 pub returns-clause-right : goal.returns-clause-right
 returns-clause-right g c =
-    right_gained g.row.W c.args.id (record { fee = c.args.fee; size = c.args.size }) c.args.shelves.now c.rebuild.new.self c.requires.order (adds g c)
+    right_gained g.row.W c.args.id (record { fee = c.args.fee; size = c.args.size }) c.args.shelves.now c.rebuild.new.self c.requires.order c.rebuild.ensures.order (adds g c)
     c.reserve.new.self c.add.new.self
     (right_reserved c.args.rings.now c.reserve.new.self c.args.shelves.now.main (numbers_at Top c.args.shelves.now) c.reserve.ensures.same c.requires.right)
     (absent_main c.args.rings.now c.args.shelves.now c.args.id c.requires.right c.requires.absent) c.is_staged.result c.is_staged.ensures
