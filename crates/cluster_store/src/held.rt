@@ -5,7 +5,8 @@ ghost use Rattle.cluster_store.specs.Walks.{parts_at};
 
 use crate::stored::Stored;
 use chunk_index::{Entry, IndexWalk};
-use cluster::{Cluster, PartRef};
+use cluster::PartRef;
+use component::Component;
 use slab::Slab;
 use std::marker::Model;
 
@@ -45,7 +46,7 @@ impl<'a, const W: usize> HeldWalk<'a, W> {
 fn held<'a, const W: usize>(
     slots: &'a Slab<Stored<W>>,
     entry: Entry,
-) -> (PartRef<'a>, &'a Cluster<W>)
+) -> (PartRef<'a>, &'a Component<W>)
     requires { entry.position < length (parts_at (λ (s : Kept). s.cluster.parts) slots.now.slots entry) }
     ensures { held_part result ≡ held_at_entry slots.now.slots entry }
 {
@@ -60,7 +61,7 @@ fn held<'a, const W: usize>(
 }
 
 impl<'a, const W: usize> Iterator for HeldWalk<'a, W> {
-    type Item = (PartRef<'a>, &'a Cluster<W>);
+    type Item = (PartRef<'a>, &'a Component<W>);
 
     ghost use Rattle.std.specs.Iterator.{YieldsFirstBy, item_count};
 
@@ -68,7 +69,7 @@ impl<'a, const W: usize> Iterator for HeldWalk<'a, W> {
 
     ghost remaining = { item_count (λ rest. rest) };
 
-    fn next(&mut self) -> Option<(PartRef<'a>, &'a Cluster<W>)> {
+    fn next(&mut self) -> Option<(PartRef<'a>, &'a Component<W>)> {
         let entry = self.entries.next()?;
         Some(held(self.slots, entry))
     }

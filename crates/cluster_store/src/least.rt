@@ -6,10 +6,10 @@ ghost use Rattle.cluster_store.specs.Stores.{Exchange as Kept};
 ghost use Rattle.cluster_store.specs.Changes.{lowest, lowest_in};
 
 use crate::stored::Exchange;
-use cluster::Cluster;
+use component::Component;
 
 /// The least of a number and the sizes of the names of a cluster.
-pub fn lowest_of<const W: usize>(cluster: &Cluster<W>, least: u64) -> u64
+pub fn lowest_of<const W: usize>(cluster: &Component<W>, least: u64) -> u64
     ensures least { result ≡ lowest (λ id. (rate_of cluster.now.graph id).size) cluster.now.names least }
     ensures whole { IsCluster (64 * W) cluster.now }
 {
@@ -34,7 +34,7 @@ pub fn lowest_exchanged<const W: usize>(least: u64, exchanged: &[Exchange<W>]) -
 }
 
 /// The least of a number and the sizes of the names of clusters.
-pub fn lowest_of_all<const W: usize>(least: u64, clusters: &[Cluster<W>]) -> u64
+pub fn lowest_of_all<const W: usize>(least: u64, clusters: &[Component<W>]) -> u64
     ensures least { result ≡ lowest_in clusters.now least }
     ensures whole { (c : Record) → Contains clusters.now c → IsCluster (64 * W) c }
 {
@@ -46,7 +46,7 @@ pub fn lowest_of_all<const W: usize>(least: u64, clusters: &[Cluster<W>]) -> u64
 }
 
 /// The least of a number and the sizes of the names of a cluster, where there is one.
-pub fn lowest_of_last<const W: usize>(least: u64, last: &Option<Cluster<W>>) -> u64
+pub fn lowest_of_last<const W: usize>(least: u64, last: &Option<Component<W>>) -> u64
     ensures least { result ≡ lowest_in (option_to_list last.now) least }
     ensures whole { (c : Record) → last.now ≡ Some c → IsCluster (64 * W) c }
 {

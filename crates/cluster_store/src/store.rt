@@ -19,7 +19,7 @@ use crate::stored::{Exchange, Made, Stored};
 use crate::tail::first_of_tail;
 use crate::walk::PartWalk;
 use chunk_index::{ChunkIndex, Tag};
-use cluster::Cluster;
+use component::Component;
 use graphs::Level;
 use outside::NoMemory;
 use slab::Slab;
@@ -66,7 +66,7 @@ impl<const W: usize> ClusterStore<W> {
     }
 
     /// The cluster of a number, or `None` where the number has none.
-    pub fn get(&self, number: usize) -> Option<&Cluster<W>>
+    pub fn get(&self, number: usize) -> Option<&Component<W>>
         ensures cluster { MatchOption result (finmap.get self.now.clusters number ≡ None)
             (λ c. (s : Kept) × (finmap.get self.now.clusters number ≡ Some s) × (c.now ≡ s.cluster)) }
         ensures whole { IfSome result (λ c. IsCluster (64 * W) c.now) }
@@ -165,8 +165,8 @@ impl<const W: usize> ClusterStore<W> {
         &mut self,
         staged: bool,
         outs: &[usize],
-        rest: Vec<Cluster<W>>,
-        last: Option<Cluster<W>>,
+        rest: Vec<Component<W>>,
+        last: Option<Component<W>>,
     ) -> Result<Made, NoMemory>
         requires { MayLeave staged outs.now self.old.clusters }
         ensures rebuilt { IfOk result (λ made. TopChanges staged outs.now made.rest.items made.last rest.entry.items last.entry

@@ -2,14 +2,15 @@ ghost use Rattle.std.specs.Prelude.{◌≡◌};
 
 use crate::walk::Parts;
 use chunk_index::Tag;
-use cluster::{Cluster, PartRef};
+use cluster::PartRef;
+use component::Component;
 use std::marker::Model;
 use std::mem;
 
 /// A cluster and the levels that it stands in.
 #[derive(Drop)]
 pub struct Stored<const W: usize> {
-    cluster: Cluster<W>,
+    cluster: Component<W>,
     tag: Tag,
 }
 
@@ -25,14 +26,14 @@ impl<const W: usize> Model for Stored<W> {
 
 impl<const W: usize> Stored<W> {
     /// A cluster that is to stand in the levels of a tag.
-    pub(crate) fn new(cluster: Cluster<W>, tag: Tag) -> Self
+    pub(crate) fn new(cluster: Component<W>, tag: Tag) -> Self
         ensures { result ≡ record { cluster = cluster.entry; tag = tag } }
     {
         Stored { cluster, tag }
     }
 
     /// The cluster.
-    pub fn cluster(&self) -> &Cluster<W>
+    pub fn cluster(&self) -> &Component<W>
         ensures { result.now ≡ self.now.cluster }
     {
         &self.cluster
@@ -53,7 +54,7 @@ impl<const W: usize> Stored<W> {
     }
 
     /// Puts another cluster in its place, and gives the one that was there.
-    pub(crate) fn replace(&mut self, cluster: Cluster<W>) -> Cluster<W>
+    pub(crate) fn replace(&mut self, cluster: Component<W>) -> Component<W>
         ensures new { self.new ≡ record { cluster = cluster.entry; tag = self.old.tag } }
         ensures old { result ≡ self.old.cluster }
     {
@@ -74,7 +75,7 @@ pub struct Made {
 #[derive(Drop)]
 pub struct Exchange<const W: usize> {
     number: usize,
-    cluster: Cluster<W>,
+    cluster: Component<W>,
 }
 
 impl<const W: usize> Model for Exchange<W> {
@@ -89,7 +90,7 @@ impl<const W: usize> Model for Exchange<W> {
 
 impl<const W: usize> Exchange<W> {
     /// The cluster that is to stand under a number.
-    pub fn new(number: usize, cluster: Cluster<W>) -> Self
+    pub fn new(number: usize, cluster: Component<W>) -> Self
         ensures { result ≡ record { number = number; cluster = cluster.entry } }
     {
         Exchange { number, cluster }
@@ -103,14 +104,14 @@ impl<const W: usize> Exchange<W> {
     }
 
     /// The cluster.
-    pub fn cluster(&self) -> &Cluster<W>
+    pub fn cluster(&self) -> &Component<W>
         ensures { result.now ≡ self.now.cluster }
     {
         &self.cluster
     }
 
     /// Both.
-    pub(crate) fn into_parts(self) -> (usize, Cluster<W>)
+    pub(crate) fn into_parts(self) -> (usize, Component<W>)
         ensures number { result.0 ≡ self.entry.number }
         ensures cluster { result.1 ≡ self.entry.cluster }
     {

@@ -18,7 +18,7 @@ use crate::left::News;
 use crate::links::{Link, refused_sum, way_within};
 use crate::shelves::Shelves;
 use chunk_index::Tag;
-use cluster::Work;
+use component::Work;
 use cluster_store::Exchange;
 use graph_model::{Level, Limits, Refusal, TxId};
 use outside::NoMemory;

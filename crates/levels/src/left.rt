@@ -12,7 +12,7 @@ ghost use Rattle.levels.specs.Shelves.{IsInOrder, numbers_at, seen_at, view_of};
 ghost use Rattle.levels.specs.Views.{graph_of};
 
 use crate::shelves::Shelves;
-use cluster::{Cluster, Work};
+use component::{Component, Work};
 use graph_model::{Level, TxId};
 use outside::NoMemory;
 use std::alloc::Global;
@@ -22,16 +22,16 @@ use step_count::{Ledger, Steps};
 #[derive(Drop)]
 pub struct Left<const W: usize> {
     pub outs: Vec<usize>,
-    pub rest: Vec<Cluster<W>>,
-    pub last: Option<Cluster<W>>,
+    pub rest: Vec<Component<W>>,
+    pub last: Option<Component<W>>,
 }
 
 /// What comes in where clusters go out: the last of it takes the number of the first of those, and has as many of its names as `kept`, from
 /// the first.
 #[derive(Drop)]
 pub struct News<const W: usize> {
-    pub rest: Vec<Cluster<W>>,
-    pub last: Option<Cluster<W>>,
+    pub rest: Vec<Component<W>>,
+    pub last: Option<Component<W>>,
     pub kept: usize,
 }
 
@@ -128,7 +128,7 @@ impl<const W: usize> Shelves<W> {
 impl<const W: usize> Left<W> {
     // Takes what is left of one cluster more. Of the first cluster one with the most names is kept apart, so that most names keep
     // their number.
-    fn take(&mut self, number: usize, mut pieces: Vec<Cluster<W>>) -> Result<(), NoMemory>
+    fn take(&mut self, number: usize, mut pieces: Vec<Component<W>>) -> Result<(), NoMemory>
         requires { W ≤ 2 }
         ensures { OnOk result (Takes number pieces.entry.items self.old.outs.items self.old.rest.items self.old.last
             self.new.outs.items self.new.rest.items self.new.last) }
@@ -174,7 +174,7 @@ fn names_of(alloc: Global, run: &[(usize, TxId)]) -> Result<Vec<TxId>, NoMemory>
 }
 
 // Takes one of the most names out of some clusters.
-fn take_largest<const W: usize>(clusters: &mut Vec<Cluster<W>>) -> Option<Cluster<W>>
+fn take_largest<const W: usize>(clusters: &mut Vec<Component<W>>) -> Option<Component<W>>
     requires { W ≤ 2 }
     ensures { IsPermutation {X = records.Cluster} clusters.old.items (clusters.new.items ++ option_to_list result) }
 {
@@ -188,7 +188,7 @@ fn take_largest<const W: usize>(clusters: &mut Vec<Cluster<W>>) -> Option<Cluste
 }
 
 // The place of one of the most names.
-fn largest<const W: usize>(clusters: &[Cluster<W>]) -> usize
+fn largest<const W: usize>(clusters: &[Component<W>]) -> usize
     requires narrow { W ≤ 2 }
     requires some { 1 ≤ length clusters.now }
     ensures place { result < length clusters.now }

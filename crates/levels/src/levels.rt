@@ -28,7 +28,8 @@ use crate::mining::refused_mine;
 use crate::moving::{add_name, connect, drop_names};
 use crate::settling::settle_rings;
 use crate::shelves::Shelves;
-use cluster::{Cluster, Covers, PartRef, Work};
+use cluster::PartRef;
+use component::{Component, Covers, Work};
 use cluster_store::{HeldWalk, PartWalk, RateWalk, Stored};
 use graph_model::{Level, Limits, Place, Refusal, TxId, Verdict};
 use name_book::NameBook;
@@ -132,7 +133,7 @@ impl<const W: usize> Levels<W> {
     }
 
     /// The cluster of a name in a level, or `None` where the level hasn't the name.
-    pub fn find(&self, level: Level, id: TxId) -> Option<&Cluster<W>>
+    pub fn find(&self, level: Level, id: TxId) -> Option<&Component<W>>
         ensures { MatchOption result (is_member (level_at self.now level).graph id ≡ false)
             (λ c. (is_member (level_at self.now level).graph id ≡ true)
             × IsClusterOf (level_at self.now level).graph id c.now × IsCluster (64 * W) c.now) }

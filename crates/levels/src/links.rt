@@ -4,7 +4,7 @@ ghost use Rattle.graphs.specs.Closures.{rate_of};
 ghost use Rattle.levels.specs.Joins.{SumRefusalIs};
 ghost use Rattle.levels.specs.Links.{IsWithin};
 
-use cluster::Cluster;
+use component::Component;
 use graph_model::{Limits, Refusal, TxId};
 
 /// How two names stand, of which the one may become a parent of the other.
@@ -20,7 +20,7 @@ pub enum Link {
 
 /// How two names of one cluster stand.
 pub(crate) fn way_within<const W: usize>(
-    cluster: &Cluster<W>,
+    cluster: &Component<W>,
     number: usize,
     parent: TxId,
     child: TxId,
@@ -41,8 +41,8 @@ pub(crate) fn way_within<const W: usize>(
 /// Which limit two clusters break together.
 pub(crate) fn refused_sum<const W: usize>(
     limits: &Limits,
-    first: &Cluster<W>,
-    second: &Cluster<W>,
+    first: &Component<W>,
+    second: &Component<W>,
 ) -> Option<Refusal>
     requires { limits.now.count ≤ MAX_TOTAL }
     ensures row { SumRefusalIs limits.now (length first.now.names + length second.now.names)

@@ -12,7 +12,7 @@ ghost use Rattle.levels.specs.Shelves.{IsInOrder, view_of};
 ghost use Rattle.levels.specs.Views.{graph_of};
 
 use crate::shelves::Shelves;
-use cluster::Cluster;
+use component::Component;
 use graph_model::{Level, Refusal, TxId};
 use name_book::NameBook;
 use repeats::Repeats;
@@ -112,7 +112,7 @@ fn lacks_touched<const W: usize>(shelves: &Shelves<W>, rings: &NameBook, id: TxI
 }
 
 // Whether a name of a cluster has an ancestor that isn't touched.
-fn has_untouched<const W: usize>(cluster: &Cluster<W>, rings: &NameBook, id: TxId) -> bool
+fn has_untouched<const W: usize>(cluster: &Component<W>, rings: &NameBook, id: TxId) -> bool
     requires narrow { W ≤ 2 }
     requires here { Contains cluster.now.names id }
     requires named { (a : ℕ) → is_ancestor cluster.now.graph a id ≡ true → IsNamed rings.now.book a }

@@ -28,7 +28,7 @@ ghost use Rattle.levels.specs.Views.{graph_of};
 use crate::left::{Left, News};
 use crate::links::Link;
 use crate::shelves::{Shelves, last_count};
-use cluster::{Cluster, Work};
+use component::{Component, Work};
 use graph_model::{Level, TxId};
 use name_book::NameBook;
 use outside::NoMemory;
@@ -62,7 +62,7 @@ pub(crate) fn add_name<const W: usize, L: Ledger>(
 {
     rings.reserve(1)?;
     let alloc = shelves.alloc;
-    let cluster = Cluster::single(alloc, id, fee, size, work, steps)?;
+    let cluster = Component::single(alloc, id, fee, size, work, steps)?;
     shelves.rebuild(&[], Vec::new(alloc), Some(cluster), 0, &[])?;
     rings.add(id, shelves.is_staged());
     Ok(())

@@ -21,7 +21,8 @@ ghost use Rattle.levels.specs.Shelves.{IsInOrder, numbers_at, one_of};
 ghost use Rattle.levels.specs.Views.{HaveClusterNumbers};
 
 use crate::shelves::Shelves;
-use cluster::{Covers, PartRef};
+use cluster::PartRef;
+use component::Covers;
 use cluster_store::{HeldWalk, PartWalk, RateWalk, Stored};
 use graph_model::{Level, Place, TxId, Verdict};
 

@@ -13,7 +13,7 @@ ghost use Rattle.levels.specs.Shelves.{IsInOrder, no_clusters, numbers_at, seen_
 use crate::numbers::{number_of, point_all, point_last, unpoint};
 use crate::stored::{at, tag_of};
 use chunk_index::Tag;
-use cluster::Cluster;
+use component::Component;
 use cluster_store::{ClusterStore, Exchange, Made};
 use graph_model::{Level, TxId};
 use outside::NoMemory;
@@ -75,7 +75,7 @@ impl<const W: usize> Shelves<W> {
     }
 
     /// The cluster of a number that has one.
-    pub fn at(&self, number: usize) -> &Cluster<W>
+    pub fn at(&self, number: usize) -> &Component<W>
         requires { IsSome (stored_at self.now.store.clusters number) }
         ensures { stored_at self.now.store.clusters number ≡ Some result.now }
     {
@@ -114,8 +114,8 @@ impl<const W: usize> Shelves<W> {
     pub(crate) fn rebuild(
         &mut self,
         outs: &[usize],
-        rest: Vec<Cluster<W>>,
-        last: Option<Cluster<W>>,
+        rest: Vec<Component<W>>,
+        last: Option<Component<W>>,
         kept: usize,
         gone: &[TxId],
     ) -> Result<Made, NoMemory>
@@ -184,8 +184,8 @@ impl<const W: usize> Shelves<W> {
 /// Makes room, so that the names of some clusters can get a number and as many names as `gone` can go.
 fn make_room<const W: usize>(
     numbers: &mut Overlay<usize>,
-    rest: &[Cluster<W>],
-    last: &Option<Cluster<W>>,
+    rest: &[Component<W>],
+    last: &Option<Component<W>>,
     gone: usize,
 ) -> Result<(), NoMemory>
     requires { W ≤ 2 }
@@ -201,7 +201,7 @@ fn make_room<const W: usize>(
 }
 
 /// How many names some clusters have, and so many more.
-fn name_count<const W: usize>(clusters: &[Cluster<W>], more: usize) -> Result<usize, NoMemory>
+fn name_count<const W: usize>(clusters: &[Component<W>], more: usize) -> Result<usize, NoMemory>
     requires { W ≤ 2 }
     ensures { IfOk result (λ n. n ≡ sum_by (λ c. length c.names) clusters.now + more) }
 {
@@ -213,7 +213,7 @@ fn name_count<const W: usize>(clusters: &[Cluster<W>], more: usize) -> Result<us
 }
 
 /// How many names a cluster has, where there is one.
-pub(crate) fn last_count<const W: usize>(last: &Option<Cluster<W>>) -> usize
+pub(crate) fn last_count<const W: usize>(last: &Option<Component<W>>) -> usize
     requires { W ≤ 2 }
     ensures { result ≡ sum_by (λ c. length c.names) (option_to_list last.now) }
 {

@@ -3,13 +3,13 @@ ghost use Rattle.chunk_index.specs.declared.entry.Tag.TheVariants.{Both};
 ghost use Rattle.levels.specs.Shelves.{stored_at, tag_at};
 
 use chunk_index::Tag;
-use cluster::Cluster;
+use component::Component;
 use cluster_store::{ClusterStore, Exchange};
 use outside::NoMemory;
 use std::alloc::Global;
 
 /// The cluster of a number that has one.
-pub(crate) fn at<const W: usize>(store: &ClusterStore<W>, number: usize) -> &Cluster<W>
+pub(crate) fn at<const W: usize>(store: &ClusterStore<W>, number: usize) -> &Component<W>
     requires { IsSome (stored_at store.now.clusters number) }
     ensures { stored_at store.now.clusters number ≡ Some result.now }
 {

@@ -1,10 +1,10 @@
-ghost use Rattle.std.specs.Prelude.{◌≡◌, ◌<◌, [], ◌∷◌};
+ghost use Rattle.std.specs.Prelude.{◌≡◌, ◌<◌, [], ◌∷◌, IfOk};
 ghost use Rattle.cluster_store.specs.Tops.{StandsInTop};
 
-use crate::samples::{Room, alone};
 use chunk_index::Tag;
-use cluster::{Cluster, Work};
 use cluster_store::{ClusterStore, Exchange, Made, PartWalk, Stored};
+use component::{Component, Work};
+use fee_rate::{FeeRate, is_rate};
 use graphs::{Level, TxId};
 use std::alloc::Global;
 use std::marker::Brand;
@@ -16,16 +16,38 @@ use step_count::{Counted, Ledger, Steps};
 
 // ---- clusters, all made before the store is
 
+// What they are made in.
+#[derive(Drop)]
+struct Room {
+    alloc: Global,
+    work: Work<1>,
+}
+
+// The cluster of one name, with its fee and its size.
+fn alone<L: Ledger>(
+    rt: &impl Abort,
+    room: &mut Room,
+    steps: &mut Steps<L>,
+    id: TxId,
+    fee: i64,
+    size: u64,
+) -> Result<Component<1>, Fail>
+    ensures { IfOk result (λ c. c.names ≡ id ∷ []) }
+{
+    assert!(rt; is_rate(FeeRate { fee, size }));
+    Ok(Component::single(room.alloc, id, fee, size, &mut room.work, steps)?)
+}
+
 // One cluster of two that have a name each. It has no clause of what the cluster is, since callers would pay for it in
 // their proofs.
 fn joined<L: Ledger>(
     rt: &impl Abort,
-    room: &mut Room<1>,
+    room: &mut Room,
     steps: &mut Steps<L>,
-    old: &Cluster<1>,
-    one: &Cluster<1>,
+    old: &Component<1>,
+    one: &Component<1>,
     pair: (TxId, TxId),
-) -> Result<Cluster<1>, Fail>
+) -> Result<Component<1>, Fail>
     requires old { old.now.names ≡ pair.0 ∷ [] }
     requires one { one.now.names ≡ pair.1 ∷ [] }
 {
@@ -36,12 +58,12 @@ fn joined<L: Ledger>(
 // One cluster of that of a name and another name, which depends on it.
 fn below<L: Ledger>(
     rt: &impl Abort,
-    room: &mut Room<1>,
+    room: &mut Room,
     steps: &mut Steps<L>,
-    old: &Cluster<1>,
+    old: &Component<1>,
     parent: TxId,
     child: (TxId, i64),
-) -> Result<Cluster<1>, Fail>
+) -> Result<Component<1>, Fail>
     requires { old.now.names ≡ parent ∷ [] }
 {
     let one = alone(rt, room, steps, child.0, child.1, 1)?;
@@ -53,11 +75,11 @@ fn below<L: Ledger>(
 // The cluster of a name and another that depends on it.
 fn pair<L: Ledger>(
     rt: &impl Abort,
-    room: &mut Room<1>,
+    room: &mut Room,
     steps: &mut Steps<L>,
     parent: (TxId, i64),
     child: (TxId, i64),
-) -> Result<Cluster<1>, Fail> {
+) -> Result<Component<1>, Fail> {
     let old = alone(rt, room, steps, parent.0, parent.1, 1)?;
     let both = below(rt, room, steps, &old, parent.0, child);
     drop(old);
@@ -67,10 +89,10 @@ fn pair<L: Ledger>(
 // The cluster of one name, or of one and another that depends on it.
 fn made<L: Ledger>(
     rt: &impl Abort,
-    room: &mut Room<1>,
+    room: &mut Room,
     steps: &mut Steps<L>,
     row: &((TxId, i64), Option<(TxId, i64)>),
-) -> Result<Cluster<1>, Fail> {
+) -> Result<Component<1>, Fail> {
     match row.1 {
         Some(child) => pair(rt, room, steps, row.0, child),
         None => alone(rt, room, steps, row.0.0, row.0.1, 1),
@@ -86,7 +108,7 @@ struct Table {
     alloc: Global,
     store: ClusterStore<1>,
     numbers: Vec<usize>,
-    clusters: Vec<Cluster<1>>,
+    clusters: Vec<Component<1>>,
 }
 
 // What a row does. Clusters are told by when they came.
@@ -106,7 +128,7 @@ enum Act {
     Settle(Level),
 }
 
-fn next(rt: &impl Abort, table: &mut Table) -> Cluster<1> {
+fn next(rt: &impl Abort, table: &mut Table) -> Component<1> {
     match table.clusters.pop() {
         Some(cluster) => cluster,
         None => panic!(rt; "no cluster is left"),
@@ -114,7 +136,7 @@ fn next(rt: &impl Abort, table: &mut Table) -> Cluster<1> {
 }
 
 // So many clusters.
-fn some(rt: &impl Abort, table: &mut Table, count: usize) -> Result<Vec<Cluster<1>>, Fail> {
+fn some(rt: &impl Abort, table: &mut Table, count: usize) -> Result<Vec<Component<1>>, Fail> {
     let mut clusters = Vec::new(table.alloc);
     for _ in 0..count {
         clusters.push(next(rt, table))?;
@@ -310,9 +332,9 @@ static CLUSTERS: [((TxId, i64), Option<(TxId, i64)>); 9] = [
 // Makes them.
 fn fill<L: Ledger>(
     rt: &impl Abort,
-    room: &mut Room<1>,
+    room: &mut Room,
     steps: &mut Steps<L>,
-    clusters: &mut Vec<Cluster<1>>,
+    clusters: &mut Vec<Component<1>>,
 ) -> Result<(), Fail> {
     for row in &CLUSTERS {
         clusters.push(made(rt, room, steps, row)?)?;
@@ -322,7 +344,7 @@ fn fill<L: Ledger>(
 
 fn rows_of<L: Ledger>(
     rt: &impl Abort,
-    room: &mut Room<1>,
+    room: &mut Room,
     steps: &mut Steps<L>,
     table: &mut Table,
 ) -> Result<(), Fail> {
@@ -331,7 +353,7 @@ fn rows_of<L: Ledger>(
 }
 
 // A table of its own, which is dropped once.
-fn begun<L: Ledger>(rt: &impl Abort, room: &mut Room<1>, steps: &mut Steps<L>) -> Result<(), Fail> {
+fn begun<L: Ledger>(rt: &impl Abort, room: &mut Room, steps: &mut Steps<L>) -> Result<(), Fail> {
     let alloc = room.alloc;
     let mut table = Table {
         alloc,
@@ -350,7 +372,7 @@ fn rows<K: ledger::Ledger>(rt: &impl Abort, alloc: Global, blank: Blank) -> Resu
     requires some { 0 < blank.parts }
 {
     let mut steps = Steps::new(Counted::<K>::new(blank));
-    let mut room = Room::<1> {
+    let mut room = Room {
         alloc,
         work: Work::new(alloc)?,
     };

@@ -31,7 +31,8 @@ ghost use Rattle.tx_graph.specs.Readings.{AreMinimalIn, IsBestOrder, IsTextOf, p
 ghost use Rattle.levels.specs.Stays.{AllStay};
 
 use crate::order::{Diagram, Forward, Held, Numbered, Order, OrderBack};
-use cluster::{Covers, PartRef};
+use cluster::PartRef;
+use component::Covers;
 use diagram::corners;
 use fee_rate::FeeRate;
 use graph_model::{IdBuf, Level, Limits, Place, Refusal, TxId, Verdict, is_fee, is_size};

@@ -25,6 +25,7 @@ mod graph;
 mod mining;
 mod order;
 
-pub use cluster::{Cluster, Covers, PartRef};
+pub use cluster::PartRef;
+pub use component::{Component, Covers};
 pub use graph::TxGraph;
 pub use order::{Diagram, Forward, Held, Numbered, Order, OrderBack};

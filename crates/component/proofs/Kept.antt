@@ -1,0 +1,13 @@
+-- What a component keeps is the cluster that it stands for.
+use Rattle.std.proofs.Common.{◌≡◌, ℕ, sym, ap, ◌∙◌}
+use Rattle.cluster.specs.Clusters.{Cluster}
+use Rattle.component.specs.Widths.{cluster_at}
+use Rattle.component.specs.declared.width.Boxed.{Boxed}
+use Rattle.component.specs.declared.width.Width.{Width}
+use Rattle.component.specs.declared.width.Width.TheVariants.{Narrow, Wide}
+
+pub narrow_is : {W : ℕ} (k : Width W) (c s : Cluster) → k ≡ Narrow c → cluster_at k ≡ s → c ≡ s
+narrow_is k c s is view = sym (ap cluster_at is) ∙ view
+
+pub wide_is : {W : ℕ} (k : Width W) (b : Boxed W) (c s : Cluster) → k ≡ Wide b → cluster_at k ≡ s → c ≡ b.cluster.value → c ≡ s
+wide_is k b c s is view same = same ∙ sym (ap cluster_at is) ∙ view

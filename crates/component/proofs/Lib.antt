@@ -1,0 +1,3 @@
+pub mod Wider
+mod Kept
+mod Following
