@@ -312,6 +312,7 @@ fn leave_all<const W: usize>(
 {
     while let Some(exchange) = exchanged.pop() {
         leave_beside(slots, index, &exchange);
+        drop(exchange);
     }
 }
 

@@ -1,5 +1,7 @@
 -- What a component keeps is the cluster that it stands for.
-use Rattle.std.proofs.Common.{◌≡◌, ℕ, sym, ap, ◌∙◌}
+use Rattle.std.proofs.Common.{◌≡◌, ℕ, sym, ap, ◌∙◌, subst}
+use Rattle.std.specs.Prelude.{Result, IfOk}
+use Rattle.std.proofs.lemmas.Result.{IfOk-weaker}
 use Rattle.cluster.specs.Clusters.{Cluster}
 use Rattle.component.specs.Widths.{cluster_at}
 use Rattle.component.specs.declared.width.Boxed.{Boxed}
@@ -11,3 +13,7 @@ narrow_is k c s is view = sym (ap cluster_at is) ∙ view
 
 pub wide_is : {W : ℕ} (k : Width W) (b : Boxed W) (c s : Cluster) → k ≡ Wide b → cluster_at k ≡ s → c ≡ b.cluster.value → c ≡ s
 wide_is k b c s is view same = same ∙ sym (ap cluster_at is) ∙ view
+
+-- what holds of a value holds of a result that has no other
+pub handed : {T E : Type 0} (P : T → Type 0) (x : T) (r : Result T E) → IfOk r (λ y. y ≡ x) → P x → IfOk r P
+handed P x r same holds = IfOk-weaker r (λ y. y ≡ x) P (λ y e. subst P (sym e) holds) same

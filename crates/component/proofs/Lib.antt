@@ -1,3 +1,6 @@
 pub mod Wider
 mod Kept
 mod Following
+mod Same
+mod Left
+mod Sizes

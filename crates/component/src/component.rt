@@ -12,7 +12,7 @@ ghost use Rattle.cluster.specs.Steps.{GrowsWithin, most_steps, most_steps_of};
 
 use crate::ancestors::Ancestors;
 use crate::covers::Covers;
-use crate::joining::{narrow_joined, wide_joined};
+use crate::joining::{first_widened, narrow_joined, second_widened, wide_joined};
 use crate::list::Components;
 use crate::pieces::{fitted_all, narrow_all};
 use crate::width::{Boxed, Width};
@@ -133,12 +133,10 @@ impl<const W: usize> Component<W> {
                 narrow_joined(alloc, first, second, parent, child, work, steps)
             }
             (Width::Narrow(first), Width::Wide(second)) => {
-                let first = first.resized::<W>(alloc)?;
-                wide_joined(alloc, &first, &second.cluster, parent, child, work, steps)
+                first_widened(alloc, first, &second.cluster, parent, child, work, steps)
             }
             (Width::Wide(first), Width::Narrow(second)) => {
-                let second = second.resized::<W>(alloc)?;
-                wide_joined(alloc, &first.cluster, &second, parent, child, work, steps)
+                second_widened(alloc, &first.cluster, second, parent, child, work, steps)
             }
             (Width::Wide(first), Width::Wide(second)) => {
                 wide_joined(
