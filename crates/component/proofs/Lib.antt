@@ -2,5 +2,4 @@ pub mod Wider
 mod Kept
 mod Following
 mod Same
-mod Left
 mod Sizes
