@@ -134,7 +134,10 @@ const RUNS: [Row; 16] = [
         "limits 129 1 1\nlimits 64 404000 1\nlimits 64 404000 2\nadd 1 1 1\nadd 2 1 1\nremove 1\nadd 2 1 1\n",
         "refused range\nok\nrefused late\nok\nrefused full\nok\nok\n",
     ),
-    ("limits 64 512000001 1\nlimits 128 512000000 1\n", "refused range\nok\n"),
+    (
+        "limits 64 512000001 1\nlimits 128 512000000 1\n",
+        "refused range\nok\n",
+    ),
     (
         "add 1 1 1\nadd 2 1 1\nadd 3 1 1\ndep 1 2\ndep 2 3\ndep 1 3\ncluster 1 main\nremove 2\ncluster 1 main\ndescendants 1 top\nremove 2\n",
         "ok\nok\nok\nok\nok\nok\nids 1 2 3\nok\nids 1 3\nids 1 3\nrefused unknown 2\n",

@@ -59,7 +59,11 @@ fn a_cluster_may_have_65_names(rt: HostRuntime) -> Result<(), Fail> {
 #[test]
 fn a_limit_of_64_names_refuses_the_65th(rt: HostRuntime) -> Result<(), Fail> {
     let alloc = rt.alloc();
-    let input = chain(alloc, "limits 64 404000 1000", "count main\nancestors 65 main\n")?;
+    let input = chain(
+        alloc,
+        "limits 64 404000 1000",
+        "count main\nancestors 65 main\n",
+    )?;
     let replies = accepted(alloc, 129, "refused count 65\ncount 65\nids 65\n")?;
     replays(&rt, alloc, &input, &replies)
 }
