@@ -4,6 +4,7 @@ mod Single
 mod Lists
 mod Listings
 mod Parts
+mod Whole
 mod Joined
 mod Takes
 mod Standing

@@ -1,11 +1,12 @@
 -- What is made of clusters, told by names.
-use Rattle.std.specs.Prelude.{◌≡◌, ◌≢◌, ◌⊎◌, ◌↔◌, ℕ, ◌<◌, Bool, true, ◌&&◌, ◌||◌, nat_eq, List, [], ◌∷◌, length, slice_index, flat_map, Contains}
+use Rattle.std.specs.Prelude.{◌≡◌, ◌≢◌, ◌⊎◌, ◌↔◌, ℕ, ◌<◌, ◌≤◌, Bool, true, ◌&&◌, ◌||◌, nat_eq, List, [], ◌∷◌, length, slice_index, flat_map, Contains}
 use Rattle.std.specs.Ordering.{nat_cmp}
 use Rattle.std.specs.FinSet as set
 use Rattle.std.specs.List.{AllPairs}
 use Rattle.lists.specs.Distinct.{AreDistinct}
 use Rattle.lists.specs.Walks.{Walk}
-use Rattle.graphs.specs.Closures.{Closure, is_member, is_ancestor, rate_of, IsRelated}
+use Rattle.bitset.specs.Places.{places}
+use Rattle.graphs.specs.Closures.{Closure, is_member, is_ancestor, members_of, rate_of, IsRelated}
 use Rattle.fee_rate.specs.declared.rates.FeeRate.{FeeRate}
 use Rattle.cluster.specs.Clusters.{Cluster, AreApart}
 
@@ -14,6 +15,20 @@ pub record IsSingle (id : ℕ) (rate : FeeRate) (c : Cluster) : Type 0 where
   pub names : c.names ≡ id ∷ []
   pub rate_is : rate_of c.graph id ≡ rate
   pub ancestors : (a d : ℕ) → is_ancestor c.graph a d ≡ (nat_eq a id && nat_eq d id)
+
+-- names for the members of a graph: one at least, as many as there are members, and no name twice
+pub record AreNamesOf (dep : Closure) (names : List ℕ) : Type 0 where
+  pub some : 1 ≤ length names
+  pub each : length names ≡ set.len (members_of dep)
+  pub once : AreDistinct names
+
+-- The cluster of the members of a graph, which are below n: the names of the list, of which the first has what the least member
+-- has, the second what the next one has, and so on, its fee and size and its ancestors among them.
+pub record TakesNames (n : ℕ) (dep : Closure) (names : List ℕ) (c : Cluster) : Type 0 where
+  pub names_are : c.names ≡ names
+  pub rates : (i : ℕ) → i < length names → rate_of c.graph (slice_index names i) ≡ rate_of dep (slice_index (places n (members_of dep)) i)
+  pub ancestors : (i j : ℕ) → i < length names → j < length names → is_ancestor c.graph (slice_index names i) (slice_index names j)
+      ≡ is_ancestor dep (slice_index (places n (members_of dep)) i) (slice_index (places n (members_of dep)) j)
 
 -- a is an ancestor of d in one of two graphs
 abbrev pub is_above : Closure → Closure → ℕ → ℕ → Bool

@@ -4,11 +4,11 @@ ghost use Rattle.fee_rate.specs.declared.limits.TheConstants.{MAX_SIZE, MAX_TOTA
 ghost use Rattle.graphs.specs.Closures.{is_ancestor, rate_of, AddsPair, SetsFee, IsCover};
 ghost use Rattle.graphs.specs.Graphs.{Lists};
 ghost use Rattle.graphs.specs.Certificates.{Part};
-ghost use Rattle.linearize.specs.Graphs.{sum_from};
+ghost use Rattle.linearize.specs.Graphs.{sum_from, HasRates, IsComponent};
 ghost use Rattle.cluster.specs.Clusters.{IsCluster, AreApart};
 ghost use Rattle.cluster.specs.Named.{named, IsNamed};
 ghost use Rattle.cluster.specs.Covers.{ListsInOrder};
-ghost use Rattle.cluster.specs.Changes.{IsSingle, Joins, AreAcross, IsSplit, AreComponents};
+ghost use Rattle.cluster.specs.Changes.{IsSingle, AreNamesOf, TakesNames, Joins, AreAcross, IsSplit, AreComponents};
 ghost use Rattle.cluster.specs.Steps.{GrowsWithin, most_steps, most_steps_of};
 
 use crate::ancestors::Ancestors;
@@ -98,6 +98,28 @@ impl<const W: usize> Cluster<W> {
         let _place = dep.add(fee, size)?;
         let mut names = SmallVec::new(alloc);
         names.push(id)?;
+        certified(alloc, names, dep, &work.guess, &mut work.room, steps)
+    }
+
+    /// Makes the cluster of a dependency graph of one component, by names for its members in the order of their places. The graph
+    /// stays as it is; there may be gaps between its places. For n names the solver takes at most 2·(n+2)^5 steps.
+    pub fn whole<L: Ledger>(
+        alloc: Global,
+        names: &[TxId],
+        dep: &DepGraph<W>,
+        work: &mut Work<W>,
+        steps: &mut Steps<L>,
+    ) -> Result<Self, NoMemory>
+        requires names { AreNamesOf dep.now names.now }
+        requires component { IsComponent dep.now }
+        requires rates { HasRates dep.now }
+        ensures graph { IfOk result (TakesNames (64 * W) dep.now names.now) }
+        ensures whole { IfOk result (IsCluster (64 * W)) }
+        ensures steps { GrowsWithin (most_steps (length names.now)) steps.old steps.new }
+    {
+        work.guess.clear();
+        let dep = dep.part(alloc, dep.members())?;
+        let names = SmallVec::from_slice(alloc, names)?;
         certified(alloc, names, dep, &work.guess, &mut work.room, steps)
     }
 

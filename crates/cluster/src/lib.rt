@@ -6,9 +6,10 @@
 //!
 //! # How it works
 //!
-//! Five calls make clusters: [`single`](Cluster::single) of one transaction, and `linked`, `joined`, `without` and `with_fee` of
-//! other clusters, which stay as they are. Each solves the clusters that it makes, once. The solver is handed the order that
-//! was there before. That order has no say in what the solver finds, only in how soon.
+//! Six calls make clusters: [`single`](Cluster::single) of one transaction, [`whole`](Cluster::whole) of a dependency graph, and
+//! `linked`, `joined`, `without` and `with_fee` of other clusters, which stay as they are. Each solves the clusters that it makes,
+//! once. The solver is handed the order that was there before, if there was one. That order has no say in what the solver finds,
+//! only in how soon.
 //!
 //! A part of the old order whose names keep their fees, their sizes and the relation among themselves is *known*, and isn't
 //! solved again. With another fee, the parts without that name are known. With a new dependency, those that have no name

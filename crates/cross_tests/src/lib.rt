@@ -11,3 +11,5 @@ mod picked;
 mod replay_tests;
 #[cfg(test)]
 mod replies;
+#[cfg(test)]
+mod wide_tests;

@@ -91,7 +91,7 @@ fn replays(
 type Row = (&'static str, &'static str);
 
 /// Inputs of `replay` with their outputs.
-const RUNS: [Row; 15] = [
+const RUNS: [Row; 16] = [
     ("", ""),
     ("add 1 1000 200\n", "ok\n"),
     (
@@ -133,6 +133,10 @@ const RUNS: [Row; 15] = [
     (
         "limits 129 1 1\nlimits 64 404000 1\nlimits 64 404000 2\nadd 1 1 1\nadd 2 1 1\nremove 1\nadd 2 1 1\n",
         "refused range\nok\nrefused late\nok\nrefused full\nok\nok\n",
+    ),
+    (
+        "limits 64 512000001 1\nlimits 128 512000000 1\n",
+        "refused range\nok\n",
     ),
     (
         "add 1 1 1\nadd 2 1 1\nadd 3 1 1\ndep 1 2\ndep 2 3\ndep 1 3\ncluster 1 main\nremove 2\ncluster 1 main\ndescendants 1 top\nremove 2\n",
