@@ -3,6 +3,7 @@ ghost use Rattle.certificate.specs.Accounts.{amount_of};
 ghost use Rattle.certificate.specs.Answers.{AreClaims};
 
 use crate::samples::{Room, alone};
+use crate::whole_tests::each_graph;
 use certificate::{CheckFault, EdgeList, FlowList, Part, TxList, Written, check};
 use cluster::{Cluster, Work};
 use fee_rate::{Sum, is_fee};
@@ -289,7 +290,7 @@ fn grow_by<L: Ledger>(
 }
 
 // A cluster by its names: each but the first depends on one before it, and has a fee and a size.
-fn built<L: Ledger>(
+pub(crate) fn built<L: Ledger>(
     rt: &impl Abort,
     room: &mut Room<2>,
     steps: &mut Steps<L>,
@@ -637,6 +638,7 @@ fn wide_cases<L: Ledger>(
 ) -> Result<(), Fail> {
     pair(rt, room, steps)?;
     four(rt, room, steps)?;
+    each_graph(rt, room, steps)?;
     half(rt, room, steps)?;
     whole(rt, room, steps)
 }

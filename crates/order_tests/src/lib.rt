@@ -21,3 +21,5 @@ mod levels_tests;
 mod linearize_tests;
 #[cfg(test)]
 mod samples;
+#[cfg(test)]
+mod whole_tests;
