@@ -1,4 +1,4 @@
-use Rattle.std.proofs.Common.{rules, ◌≡◌, ℕ, ◌≤◌, length, true, ap, arith, lit<}
+use Rattle.std.proofs.Common.{rules, ◌≡◌, ◌≤◌, length, true, ap, arith, lit<}
 use Rattle.std.specs.FinSet as set
 use Rattle.bitset.specs.Members.{len_bound}
 use Rattle.graphs.specs.Closures.{members_of}
