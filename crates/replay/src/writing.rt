@@ -17,7 +17,7 @@ use crate::answer::{Outcome, told};
 use fee_rate::{FeeRate, Sum};
 use graph_model::{Flow, Level, Refusal, TxId};
 use outside::{Failed, Sink};
-use tx_graph::{Cluster, Covers, Order, PartRef, TxGraph};
+use tx_graph::{Component, Covers, Order, PartRef, TxGraph};
 use wire::{write_chunk, write_edge, write_flow, write_point, write_refusal, write_tx, write_word};
 
 /// A line of a reply that goes out line by line.
@@ -168,7 +168,7 @@ fn more_parts<const W: usize, K: Sink>(
 /// Goes on with the lines of some transactions of a cluster.
 fn more_txs<const W: usize, K: Sink>(
     so_far: Result<(), Failed>,
-    cluster: &Cluster<W>,
+    cluster: &Component<W>,
     ids: &[TxId],
     sink: &mut K,
 ) -> Result<(), Failed>
@@ -220,7 +220,7 @@ fn more_covers<const W: usize, K: Sink>(
 /// Goes on with the lines of the edges to some transactions of a cluster.
 fn more_edges<const W: usize, K: Sink>(
     so_far: Result<(), Failed>,
-    cluster: &Cluster<W>,
+    cluster: &Component<W>,
     ids: &[TxId],
     sink: &mut K,
 ) -> Result<(), Failed>
