@@ -23,7 +23,7 @@ pub news_fits : (w : ℕ) → w ≤ 2 → component_room + 40 < 9223372036854775
 news_fits w narrow = lit< tt
 
 abbrev pub covers_room : ℕ → ℕ
-covers_room w = up 8 (0 + up 8 (max (8 + 40) (8 + up 8 (32 + up 8 (0 + w * 8)))))
+covers_room w = up 8 (0 + up 8 (max 48 (max (8 + up 8 (32 + up 8 (0 + w * 8))) 1)))
 
 pub covers_fits : (w : ℕ) → w ≤ 2 → covers_room w < 9223372036854775808
 covers_fits zero narrow = lit< tt
