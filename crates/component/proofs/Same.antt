@@ -3,7 +3,6 @@ use Rattle.std.proofs.Common.{◌≡◌, ℕ, ◌+◌, ◌<◌, ◌≤◌, ◌++
 use Rattle.std.specs.Prelude.{Result, IfOk}
 use Rattle.cluster.specs.Clusters.{Cluster, AreApart}
 use Rattle.cluster.specs.Changes.{AreAcross, Joins}
-use Rattle.cluster.specs.Steps.{GrowsWithin, most_steps}
 
 module _ (f g s t : Cluster) (first : f ≡ g) (second : s ≡ t) where
   both : (P : Cluster → Cluster → Type 0) → P f s → P g t
@@ -28,7 +27,3 @@ module _ (f g s t : Cluster) (first : f ≡ g) (second : s ≡ t) where
   pub join_graph : {E : Type 0} (r : Result Cluster E) (parent child : ℕ) → IfOk r (λ (c : Cluster). Joins f.graph s.graph parent child c.graph)
       → IfOk r (λ (c : Cluster). Joins g.graph t.graph parent child c.graph)
   join_graph r parent child h = both (λ x y. IfOk r (λ (c : Cluster). Joins x.graph y.graph parent child c.graph)) h
-
-  pub join_steps : (before after : ℕ) → GrowsWithin (most_steps (length f.names + length s.names)) before after
-      → GrowsWithin (most_steps (length g.names + length t.names)) before after
-  join_steps before after h = both (λ x y. GrowsWithin (most_steps (length x.names + length y.names)) before after) h

@@ -28,10 +28,10 @@ fn accepted(alloc: Global, lines: usize, rest: &str) -> Result<String, AllocErro
     Ok(replies)
 }
 
-/// The order of the whole chain: it is one chunk.
-fn one_chunk(alloc: Global) -> Result<String, AllocError> {
-    let mut replies = String::from_str(alloc, "count 65\nchunk 2145 65")?;
-    for id in 1..66 {
+/// How many names there are, and their order where they are one chunk: the names of a range, after its fee and size.
+fn one_chunk(alloc: Global, head: &str, first: u64, end: u64) -> Result<String, AllocError> {
+    let mut replies = String::from_str(alloc, head)?;
+    for id in first..end {
         replies.push_str(&format!(in alloc; " {id}")?)?;
     }
     replies.push_str("\nend\n")?;
@@ -52,8 +52,8 @@ fn replays(rt: &impl Abort, alloc: Global, input: &str, wanted: &str) -> Result<
 fn a_cluster_may_have_65_names(rt: HostRuntime) -> Result<(), Fail> {
     let alloc = rt.alloc();
     let input = chain(alloc, "limits 65 404000 1000", "count main\norder main\n")?;
-    let replies = accepted(alloc, 130, &one_chunk(alloc)?)?;
-    replays(&rt, alloc, &input, &replies)
+    let order = one_chunk(alloc, "count 65\nchunk 2145 65", 1, 66)?;
+    replays(&rt, alloc, &input, &accepted(alloc, 130, &order)?)
 }
 
 #[test]
@@ -66,4 +66,17 @@ fn a_limit_of_64_names_refuses_the_65th(rt: HostRuntime) -> Result<(), Fail> {
     )?;
     let replies = accepted(alloc, 129, "refused count 65\ncount 65\nids 65\n")?;
     replays(&rt, alloc, &input, &replies)
+}
+
+// The chain gets another fee, goes down to 64 names and grows again.
+#[test]
+fn a_cluster_goes_below_65_names_and_back(rt: HostRuntime) -> Result<(), Fail> {
+    let alloc = rt.alloc();
+    let input = chain(
+        alloc,
+        "limits 128 404000 1000",
+        "fee 65 1\nremove 1\nadd 66 9 1\ndep 65 66\nadd 67 1000 1\ndep 66 67\ncount main\norder main\n",
+    )?;
+    let order = one_chunk(alloc, "count 66\nchunk 3089 66", 2, 68)?;
+    replays(&rt, alloc, &input, &accepted(alloc, 136, &order)?)
 }

@@ -22,8 +22,8 @@ ghost use Rattle.levels.specs.Views.{HaveClusterNumbers};
 
 use crate::shelves::Shelves;
 use cluster::PartRef;
-use component::Covers;
 use cluster_store::{HeldWalk, PartWalk, RateWalk, Stored};
+use component::Covers;
 use graph_model::{Level, Place, TxId, Verdict};
 
 impl<const W: usize> Shelves<W> {

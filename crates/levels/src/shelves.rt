@@ -13,8 +13,8 @@ ghost use Rattle.levels.specs.Shelves.{IsInOrder, no_clusters, numbers_at, seen_
 use crate::numbers::{number_of, point_all, point_last, unpoint};
 use crate::stored::{at, tag_of};
 use chunk_index::Tag;
-use component::Component;
 use cluster_store::{ClusterStore, Exchange, Made};
+use component::Component;
 use graph_model::{Level, TxId};
 use outside::NoMemory;
 use staging::Overlay;

@@ -3,8 +3,8 @@ ghost use Rattle.chunk_index.specs.declared.entry.Tag.TheVariants.{Both};
 ghost use Rattle.levels.specs.Shelves.{stored_at, tag_at};
 
 use chunk_index::Tag;
-use component::Component;
 use cluster_store::{ClusterStore, Exchange};
+use component::Component;
 use outside::NoMemory;
 use std::alloc::Global;
 

@@ -1,4 +1,4 @@
-use Rattle.std.proofs.Common.{◌≡◌, List, [], ◌∷◌, ◌++◌, sym, ap, ◌∙◌}
+use Rattle.std.proofs.Common.{List, [], ◌∷◌, ◌++◌, sym, ap, ◌∙◌}
 use Rattle.cluster.specs.Clusters.{Cluster}
 use Rattle.component.proofs.Following.{split_more, split_all, none_left}
 use Rattle.component.proofs.pieces.fitted_all.Goals as goal

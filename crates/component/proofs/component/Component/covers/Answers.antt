@@ -1,4 +1,4 @@
-use Rattle.std.proofs.Common.{ℕ, List, flat_map, sym, ◌∙◌, subst}
+use Rattle.std.proofs.Common.{ℕ, List, flat_map, sym, subst}
 use Rattle.graphs.specs.Closures.{IsCover}
 use Rattle.graphs.specs.Certificates.{Part}
 use Rattle.cluster.specs.Clusters.{Cluster}

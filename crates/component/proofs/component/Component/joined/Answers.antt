@@ -1,4 +1,4 @@
-use Rattle.std.proofs.Common.{ℕ, ◌*◌, ◌<◌, ◌+◌, length, sym, arith}
+use Rattle.std.proofs.Common.{◌*◌, ◌<◌, length, sym, arith}
 use Rattle.component.proofs.Kept.{narrow_is, wide_is, wide_large}
 use Rattle.component.proofs.Same.{join_few, join_large, join_apart, join_across}
 use Rattle.component.proofs.Sizes.{cluster_fits}
