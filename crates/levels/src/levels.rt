@@ -333,10 +333,11 @@ impl<const W: usize> Levels<W> {
         self.shelves.parts(level)
     }
 
-    /// The same parts, each with its cluster. Takes no memory.
+    /// The same parts, each with its cluster. Sets of names have at most two words. Takes no memory.
     pub fn held(&self, level: Level) -> HeldWalk<'_, W>
         ensures parts { map (λ h. h.part) result ≡ (level_at self.now level).parts }
         ensures clusters { (h : Held) → Contains result h → IsHeldIn (level_at self.now level) h }
+        ensures narrow { W ≤ 2 }
     {
         let _count = self.mains;
         self.shelves.held(level)

@@ -224,7 +224,8 @@ fn more_edges<const W: usize, K: Sink>(
     ids: &[TxId],
     sink: &mut K,
 ) -> Result<(), Failed>
-    requires { (id : ℕ) → Contains ids.now id → Contains cluster.now.names id }
+    requires names { (id : ℕ) → Contains ids.now id → Contains cluster.now.names id }
+    requires narrow { W ≤ 2 }
     ensures { (edges : List (ℕ × ℕ)) × ListsOwn cluster.now ids.now edges
         × GoesOnLines so_far (K.written sink.old) (K.written sink.new) (K.faults sink.old) (K.faults sink.new) result
         (edges_lines edges) }

@@ -508,10 +508,12 @@ impl<const W: usize> TxGraph<W> {
     }
 
     /// The same chunks, each with its cluster, which knows of its transactions what the level's graph does: the fee and the size of
-    /// each, and its parents with no third transaction between, as they stand in the level's order. Takes no memory.
+    /// each, and its parents with no third transaction between, as they stand in the level's order. Sets of names have at most two
+    /// words. Takes no memory.
     pub fn held(&self, level: Level) -> Held<'_, W>
         ensures parts { map (λ h. h.part) result ≡ (level_at self.now.levels level).parts }
         ensures clusters { (h : HeldPart) → Contains result h → IsHeldIn (level_at self.now.levels level) h }
+        ensures narrow { W ≤ 2 }
     {
         self.levels.held(level)
     }

@@ -27,8 +27,11 @@ held-part-items-requires g c = (assumption, search rules)
 pub more_edges-so_far-requires : goal.more_edges-so_far-requires
 more_edges-so_far-requires g c = (
   cluster_fits g.row.W assumption,
-  let x = held_part (c.in-Some.part, c.in-Some.cluster) in
-      (c.loop-part.invariant.held x (subst (λ (hs : List Held). Contains hs x) (sym c.in-Some.ensures.steps) (Contains-head x c.next.new.self))).names,
+  (
+    (let x = held_part (c.in-Some.part, c.in-Some.cluster) in
+        (c.loop-part.invariant.held x (subst (λ (hs : List Held). Contains hs x) (sym c.in-Some.ensures.steps) (Contains-head x c.next.new.self))).names),
+    c.held-part-items.ensures.narrow,
+  ),
 )
 
 pub loop-part-init : goal.loop-part-init

@@ -1,10 +1,12 @@
 use Rattle.std.proofs.Common.{List, ℕ, map, flat_map, take, get_or, ◌∷◌, [], ◌++◌, sym, ap, subst, ◌∙◌}
 use Rattle.std.proofs.lemmas.List.{map-append, take_more}
 use Rattle.std.proofs.lemmas.Simd.{map-map}
+use Rattle.std.proofs.lemmas.List.Elements.{Contains-get_or}
 use Rattle.graphs.specs.Closures.{IsCover}
 use Rattle.cluster.specs.Covers.{ListsInOrder}
 use Rattle.graph_model.specs.Texts.{edge_line}
 use Rattle.replay.specs.Writings.{ListsOwn, edges_lines}
+use Rattle.replay.proofs.Rooms.{covers_fits}
 use Rattle.replay.proofs.TextLemmas.{each_append, each_one}
 use Rattle.replay.proofs.WritingLemmas.{lines_on}
 use Rattle.replay.proofs.writing.more_edges.Goals as goal
@@ -26,3 +28,9 @@ loop-id-preserved g c =
       lines_on _ _ _ _ _ _ _ _ _ (edges_lines edges)
           (map (λ (parent : ℕ). edge_line parent id) parents) _ c.loop-id.invariant.2 c.more_covers-so_far.ensures lines,
     )
+
+pub covers-requires : goal.covers-requires
+covers-requires g c = (assumption, (covers_fits g.row.W c.requires.narrow, c.requires.names _ (Contains-get_or c.args.ids.now c.loop-id.id-index 0 c.loop-id-test.true)))
+
+pub more_covers-so_far-requires : goal.more_covers-so_far-requires
+more_covers-so_far-requires g c = covers_fits g.row.W c.requires.narrow

@@ -16,3 +16,6 @@ returns-clause-clusters g c =
     subst (λ (l : OneLevel). (h : Held) → Contains c.held.result h → IsHeldIn l h)
     (sym (level_is g.row.W c.self.inside.issued c.self.inside.shelves c.args.self.now c.self.invariant.order c.self.view_is c.args.level))
     c.held.ensures.clusters
+
+pub returns-clause-narrow : goal.returns-clause-narrow
+returns-clause-narrow g c = c.self.invariant.order.narrow

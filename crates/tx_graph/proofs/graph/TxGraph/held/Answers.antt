@@ -15,3 +15,6 @@ returns-clause-parts g c = c.held.ensures.parts ∙ ap (λ (k : Kept). (level_at
 pub returns-clause-clusters : goal.returns-clause-clusters
 returns-clause-clusters g c =
     subst (λ (k : Kept). (h : Held) → Contains c.held.result h → IsHeldIn (level_at k.levels c.args.level) h) c.self.view_is c.held.ensures.clusters
+
+pub returns-clause-narrow : goal.returns-clause-narrow
+returns-clause-narrow g c = c.held.ensures.narrow
