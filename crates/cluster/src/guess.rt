@@ -390,6 +390,10 @@ fn put_flows_if(known: bool, whole: bool, flows: &[Flow], out: &mut Vec<Flow>) -
 fn put_flows(flows: &[Flow], out: &mut Vec<Flow>) -> bool
     ensures { PutsFlows flows.now out.old.items out.new.items result }
 {
+    // a part of one name has none
+    if flows.is_empty() {
+        return true;
+    }
     match out.extend_from_slice(flows) {
         Ok(()) => true,
         Err(_) => false,

@@ -114,8 +114,7 @@ pub(crate) fn read<const W: usize>(
     ensures { IfOk result (λ o. IsReadOf names.now froms.now known.now linear.now o.parts.items o.names.items o.flows.items) }
 {
     stand(linear.order(), positions);
-    let mut order = SmallVec::new(alloc);
-    name_places(&mut order, names, linear.order())?;
+    let order = names_at(alloc, names, linear.order())?;
     let own_names = order.as_slice();
     let shown = linear.parts();
     let all = linear.flows();
@@ -133,7 +132,7 @@ pub(crate) fn read<const W: usize>(
             moved,
             &mut flows,
         )?;
-        parts.push(end_of(part, flows.len()))?;
+        parts.push_reserved(end_of(part, flows.len()));
         from = part.flow_end;
     }
     Ok(Order {
@@ -184,20 +183,16 @@ fn stand(order: &[usize], positions: &mut [usize])
     }
 }
 
-// Adds the names of places.
-fn name_places(
-    order: &mut SmallVec<TxId, 2>,
-    names: &[TxId],
-    places: &[usize],
-) -> Result<(), NoMemory>
+// The names of places.
+fn names_at(alloc: Global, names: &[TxId], places: &[usize]) -> Result<SmallVec<TxId, 2>, NoMemory>
     requires { (p : ℕ) → Contains places.now p → p < length names.now }
-    ensures { OnOk result (order.new.items ≡ order.old.items ++ map (slice_index names.now) places.now) }
+    ensures { IfOk result (λ order. order.items ≡ map (slice_index names.now) places.now) }
 {
-    order.reserve_exact(places.len())?;
+    let mut order = SmallVec::with_capacity(alloc, places.len())?;
     for at in 0..places.len() {
-        order.push(names[places[at]])?;
+        order.push_reserved(names[places[at]]);
     }
-    Ok(())
+    Ok(order)
 }
 
 // Adds the flows of a part by names: those of an old part as they are kept, others by child and then by parent in the order's
@@ -217,6 +212,8 @@ fn add_part(
     ensures { OnOk result (AddsPart old_part own.now positions.now order.now known.now flows.old.items flows.new.items) }
 {
     match old_part {
+        // a name that stands alone has no flows
+        Some(old) if old.flow_start == old.flow_end => Ok(()),
         Some(old) => {
             flows.extend_from_slice(between(known, old.flow_start, old.flow_end))?;
             Ok(())

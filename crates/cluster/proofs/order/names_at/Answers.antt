@@ -1,6 +1,6 @@
 use Rattle.std.proofs.Common.{◌<◌, length, slice_index, rules}
 use Rattle.std.proofs.lemmas.List.Elements.{Contains-get_or}
-use Rattle.cluster.proofs.order.name_places.Goals as goal
+use Rattle.cluster.proofs.order.names_at.Goals as goal
 
 pub offset_bounds-names-places : goal.offset_bounds-names-places
 offset_bounds-names-places c =
