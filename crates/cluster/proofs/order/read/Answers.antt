@@ -79,21 +79,23 @@ loop-at-preserved g c =
     let count : c.len.result ≡ length c.add_part.new.flows.items = omega (arith, c.len.ensures) in
     let room : length c.parts-shown.result.now ≤ c.push_reserved.new.self.capacity = subst (λ (n : ℕ). length c.parts-shown.result.now ≤ n)
     (sym c.push_reserved.ensures.capacity) c.loop-at.invariant.1 in (
-    subst (λ (xs : List ℕ). Reading c.args.names.now xs c.args.linear.now c.args.froms.now c.args.known.now c.parts-shown.result.now (c.loop-at.at + 1)
-    (slice_index_or c.parts-shown.result.now c.loop-at.at no_end).flow_end c.push_reserved.new.self.items c.add_part.new.flows.items) (sym names_are)
-    (Reading-more c.args.linear.now c.parts-shown.result.now c.flows-all.result.now c.parts-shown.ensures
-    c.flows-all.ensures c.args.names.now c.stand.new.positions (length c.args.names.now) c.requires.placed
-    (subst (λ (xs : List ℕ). StandAt xs c.stand.new.positions) c.order.ensures c.stand.ensures) c.args.froms.now c.args.known.now c.loop-at.at c.loop-at.from
-    no_end c.between.result.now c.loop-at.parts.items c.push_reserved.new.self.items c.loop-at.flows.items c.add_part.new.flows.items
-    c.loop-at-test.true c.between.ensures adds
-    (c.push_reserved.ensures.items ∙ ap (λ x. c.loop-at.parts.items ++ x ∷ []) (c.end_of.ensures
-    ∙ ap (end_of (slice_index_or c.parts-shown.result.now c.loop-at.at no_end)) count)) so), room)
+      subst (λ (xs : List ℕ). Reading c.args.names.now xs c.args.linear.now c.args.froms.now c.args.known.now c.parts-shown.result.now (c.loop-at.at + 1)
+          (slice_index_or c.parts-shown.result.now c.loop-at.at no_end).flow_end c.push_reserved.new.self.items c.add_part.new.flows.items) (sym names_are)
+          (Reading-more c.args.linear.now c.parts-shown.result.now c.flows-all.result.now c.parts-shown.ensures
+          c.flows-all.ensures c.args.names.now c.stand.new.positions (length c.args.names.now) c.requires.placed
+          (subst (λ (xs : List ℕ). StandAt xs c.stand.new.positions) c.order.ensures c.stand.ensures) c.args.froms.now c.args.known.now c.loop-at.at c.loop-at.from
+          no_end c.between.result.now c.loop-at.parts.items c.push_reserved.new.self.items c.loop-at.flows.items c.add_part.new.flows.items
+          c.loop-at-test.true c.between.ensures adds
+          (c.push_reserved.ensures.items ∙ ap (λ x. c.loop-at.parts.items ++ x ∷ []) (c.end_of.ensures
+          ∙ ap (end_of (slice_index_or c.parts-shown.result.now c.loop-at.at no_end)) count)) so),
+      room,
+    )
 
 pub push_reserved-requires : goal.push_reserved-requires
 push_reserved-requires g c = (
   omega arith,
   parts_fit c.loop-at.parts.items c.parts-shown.result.now c.loop-at.at c.loop-at.parts.capacity c.loop-at.invariant.0.ends c.loop-at-test.true
-    c.loop-at.invariant.1,
+      c.loop-at.invariant.1,
 )
 
 pub returns : goal.returns
