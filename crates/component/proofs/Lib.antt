@@ -1,4 +1,5 @@
 pub mod Wider
+pub mod Packed
 mod Kept
 mod Following
 mod Same

@@ -1,13 +1,14 @@
 ghost use Rattle.std.specs.Prelude.{◌≡◌, ℕ, ◌+◌, ◌*◌, ◌<◌, ◌≤◌, ◌++◌, ◌↔◌, true, false, List, length, map, flat_map, slice_get, slice_index, sum_by, Some, All, Contains, IfOk, OnOk};
 ghost use Rattle.fee_rate.specs.Limits.{IsFee, IsRate};
 ghost use Rattle.fee_rate.specs.declared.limits.TheConstants.{MAX_SIZE, MAX_TOTAL};
-ghost use Rattle.graphs.specs.Closures.{is_ancestor, rate_of, AddsPair, SetsFee, IsCover};
+ghost use Rattle.bitset.specs.Places.{IsWithin};
+ghost use Rattle.graphs.specs.Closures.{is_ancestor, members_of, rate_of, AddsPair, SetsFee, IsCover};
 ghost use Rattle.graphs.specs.Graphs.{Lists};
 ghost use Rattle.graphs.specs.Certificates.{Part};
-ghost use Rattle.linearize.specs.Graphs.{sum_from};
+ghost use Rattle.linearize.specs.Graphs.{sum_from, HasRates, IsComponent};
 ghost use Rattle.cluster.specs.Clusters.{IsCluster, AreApart};
 ghost use Rattle.cluster.specs.Covers.{ListsInOrder};
-ghost use Rattle.cluster.specs.Changes.{IsSingle, Joins, AreAcross, IsSplit, AreComponents};
+ghost use Rattle.cluster.specs.Changes.{AreNamesOf, IsSingle, Joins, TakesNames, AreAcross, IsSplit, AreComponents};
 ghost use Rattle.cluster.specs.Steps.{GrowsWithin, most_steps, most_steps_of};
 
 use crate::ancestors::Ancestors;
@@ -15,9 +16,10 @@ use crate::covers::Covers;
 use crate::joining::{first_widened, narrow_joined, second_widened, wide_joined};
 use crate::list::Components;
 use crate::pieces::{fitted_all, narrow_all};
-use crate::width::{Boxed, Width};
+use crate::width::{Boxed, NARROW, Width};
 use crate::work::Work;
 use cluster::{Cluster, PartRef};
+use dep_graph::DepGraph;
 use fee_rate::FeeRate;
 use graphs::{IdBuf, TxId};
 use outside::NoMemory;
@@ -73,6 +75,32 @@ impl<const W: usize> Component<W> {
     {
         let cluster = Cluster::single(alloc, id, fee, size, &mut *work.narrow, steps)?;
         Ok(Component::narrow(cluster))
+    }
+
+    /// Makes the cluster of a dependency graph of one component, by names for its members in the order of their places, which are the
+    /// least ones. The graph stays as it is. For n names the solver takes at most 2·(n+2)^5 steps.
+    pub fn whole<L: Ledger>(
+        alloc: Global,
+        names: &[TxId],
+        dep: &DepGraph<W>,
+        work: &mut Work<W>,
+        steps: &mut Steps<L>,
+    ) -> Result<Self, NoMemory>
+        requires names { AreNamesOf dep.now names.now }
+        requires packed { IsWithin (length names.now) (members_of dep.now) }
+        requires component { IsComponent dep.now }
+        requires rates { HasRates dep.now }
+        ensures graph { IfOk result (TakesNames (64 * W) dep.now names.now) }
+        ensures whole { IfOk result (IsCluster (64 * W)) }
+        ensures steps { GrowsWithin (most_steps (length names.now)) steps.old steps.new }
+    {
+        if names.len() <= NARROW {
+            let narrow = dep.resized::<1>(alloc)?;
+            let cluster = Cluster::whole(alloc, names, &narrow, &mut *work.narrow, steps)?;
+            return Ok(Component::narrow(cluster));
+        }
+        let cluster = Cluster::whole(alloc, names, dep, &mut *work.wide, steps)?;
+        Component::wide(alloc, cluster)
     }
 
     /// Makes the cluster in which `child` depends on `parent`. Both are names of this cluster, which stays as it is. For n names
