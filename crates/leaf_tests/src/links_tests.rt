@@ -69,6 +69,12 @@ fn without_one(rt: &impl Abort, alloc: Global, links: &Links, id: TxId) -> Resul
     links.without(alloc, &[id])
 }
 
+// The links in which one of their names has a fee of 20.
+fn with_more(rt: &impl Abort, alloc: Global, links: &Links, id: TxId) -> Result<Links, NoMemory> {
+    assert!(rt; has(links, id));
+    links.with_fee(alloc, id, 20)
+}
+
 // The ancestors of a name, in rising order.
 fn above(
     rt: &impl Abort,
@@ -126,5 +132,69 @@ fn a_name_that_goes_leaves_its_ancestors_to_its_children(rt: HostRuntime) -> Res
     let mut rest = without_one(&rt, alloc, &all, 2)?;
     assert!(rt; rest.pairs() == [(1, 3)].as_slice());
     assert!(rt; above(&rt, alloc, &mut rest, 3)?.as_slice() == [1, 3].as_slice());
+    Ok(())
+}
+
+#[test]
+fn one_fee_changes_and_nothing_else(rt: HostRuntime) -> Result<(), Fail> {
+    let alloc = rt.alloc();
+    let links = chain(&rt, alloc)?;
+    let other = with_more(&rt, alloc, &links, 2)?;
+    assert!(rt; other.txs() == [(1, 10, 5), (2, 20, 5), (3, 10, 5)].as_slice());
+    assert!(rt; other.pairs() == links.pairs());
+    Ok(())
+}
+
+/// The names of a component, and its pairs.
+type Shape = (&'static [TxId], &'static [(TxId, TxId)]);
+
+// How names come in below the name 9, each after its parent, and the components that are left without the name 9.
+const PARTED: [(&[(TxId, TxId)], &[Shape]); 3] = [
+    (
+        &[(9, 1), (9, 2), (9, 3), (1, 4), (3, 5)],
+        &[(&[1, 4], &[(1, 4)]), (&[2], &[]), (&[3, 5], &[(3, 5)])],
+    ),
+    (&[(9, 1), (1, 2)], &[(&[1, 2], &[(1, 2)])]),
+    (&[], &[]),
+];
+
+// The name 9 and those below it.
+fn grown(rt: &impl Abort, alloc: Global, pairs: &[(TxId, TxId)]) -> Result<Links, NoMemory> {
+    let mut links = single(alloc, 9)?;
+    for pair in pairs {
+        links = with_child(rt, alloc, &links, pair.0, pair.1)?;
+    }
+    Ok(links)
+}
+
+// Whether links have these names and pairs.
+fn has_shape(links: &Links, shape: &Shape) -> bool {
+    for id in shape.0 {
+        if !has(links, *id) {
+            return false;
+        }
+    }
+    links.txs().len() == shape.0.len() && links.pairs() == shape.1
+}
+
+// Whether the components of links have these names and pairs.
+fn has_parts(alloc: Global, links: &Links, shapes: &[Shape]) -> Result<bool, NoMemory> {
+    let parts = links.components(alloc)?;
+    for (part, shape) in parts.iter().zip(shapes) {
+        if !has_shape(part, shape) {
+            return Ok(false);
+        }
+    }
+    Ok(parts.len() == shapes.len())
+}
+
+#[test]
+fn components_come_in_the_order_of_their_first_names(rt: HostRuntime) -> Result<(), Fail> {
+    let alloc = rt.alloc();
+    for (pairs, shapes) in &PARTED {
+        let all = grown(&rt, alloc, pairs)?;
+        let rest = without_one(&rt, alloc, &all, 9)?;
+        assert!(rt; has_parts(alloc, &rest, shapes)?, "after {pairs:?}");
+    }
     Ok(())
 }

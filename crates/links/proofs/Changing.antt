@@ -35,7 +35,7 @@ not_true true h = absurd (true≢false (sym h))
 
 -- ---- rates, by the transactions alone
 
-rate_tx : Txs → ℕ → FeeRate
+unfoldable pub rate_tx : Txs → ℕ → FeeRate
 rate_tx [] q = no_rate
 rate_tx (tx ∷ txs) q = cond (nat_eq q tx.0) (record { fee = tx.1; size = tx.2 }) (rate_tx txs q)
 
@@ -49,7 +49,7 @@ node_rate names pairs [] q = refl
 node_rate names pairs (tx ∷ txs) q =
     cond_rate (nat_eq q tx.0) _ (node_of names pairs txs q) ∙ ap (cond (nat_eq q tx.0) (record { fee = tx.1; size = tx.2 })) (node_rate names pairs txs q)
 
-rate_is : (links : Links) (q : ℕ) → rate_of (closure links) q ≡ rate_tx links.txs q
+pub rate_is : (links : Links) (q : ℕ) → rate_of (closure links) q ≡ rate_tx links.txs q
 unfolding rate_of
 rate_is links q = ap rate_in (get_node (names_of links.txs) links.pairs links.txs q) ∙ node_rate (names_of links.txs) links.pairs links.txs q
 
@@ -104,13 +104,13 @@ left_stays has txs q here =
 
 -- ---- members and ancestors of closures
 
-abbrev names : Links → List ℕ
+abbrev pub names : Links → List ℕ
 names links = names_of links.txs
 
-has_member : (links : Links) (q : ℕ) → (is_member (closure links) q ≡ true) ↔ Contains (names links) q
+pub has_member : (links : Links) (q : ℕ) → (is_member (closure links) q ≡ true) ↔ Contains (names links) q
 has_member links q = member_is (names links) links.pairs links.txs q
 
-has_above : (links : Links) (a d : ℕ) → (is_ancestor (closure links) a d ≡ true) ↔ (Contains (names links) a × Contains (names links) d × IsAncestor links.pairs a d)
+pub has_above : (links : Links) (a d : ℕ) → (is_ancestor (closure links) a d ≡ true) ↔ (Contains (names links) a × Contains (names links) d × IsAncestor links.pairs a d)
 has_above links a d = above_is (names links) links.pairs links.txs a d
 
 -- pairs with one more are the old ones and that one
@@ -123,7 +123,7 @@ more_same old new pair more a b = (
   (λ here. (more (a, b)).1 (Contains-push_cases old pair (a, b) here)),
 )
 
-same_ancestors : (old new : List (ℕ × ℕ)) → AreSame old new → (a d : ℕ) → IsAncestor new a d ↔ IsAncestor old a d
+pub same_ancestors : (old new : List (ℕ × ℕ)) → AreSame old new → (a d : ℕ) → IsAncestor new a d ↔ IsAncestor old a d
 same_ancestors old new same a d = (
   (λ walk. (walk.0, walk_within new old (λ x y here. (same x y).0 here) a d walk.0 walk.1)),
   (λ walk. (walk.0, walk_within old new (λ x y here. (same x y).1 here) a d walk.0 walk.1)),

@@ -203,7 +203,7 @@ orders links are =
     }
 
 -- the rate of a name by its only transaction
-only_one : (txs : Txs) (one two : ℕ × ℤ × ℕ) → AreDistinct (names_of txs) → Contains txs one → Contains txs two → one.0 ≡ two.0 → one ≡ two
+pub only_one : (txs : Txs) (one two : ℕ × ℤ × ℕ) → AreDistinct (names_of txs) → Contains txs one → Contains txs two → one.0 ≡ two.0 → one ≡ two
 only_one [] one two once first second same = absurd (none_in_empty one first)
 only_one (tx ∷ txs) one two once first second same = elim (Contains-cases tx one txs first) [
   | inl is ↦ elim (Contains-cases tx two txs second) [

@@ -6,8 +6,14 @@ pub mod Turning
 pub mod Pairing
 pub mod Walking
 pub mod Composing
+pub mod Fees
+pub mod Chosen
+pub mod Trails
+pub mod Finding
 pub mod Joining
 pub mod Bridging
 pub mod Gone
 pub mod Closed
 pub mod Changing
+pub mod Priced
+pub mod Splitting

@@ -29,7 +29,7 @@ found_below count steps from found within low all p here =
 
 -- ---- one step and one pair
 
-step_named : (names : List ℕ) (find : ℕ → Option ℕ) (pairs steps : List (ℕ × ℕ)) → ArePlaces names find → AreSteps find pairs steps
+pub step_named : (names : List ℕ) (find : ℕ → Option ℕ) (pairs steps : List (ℕ × ℕ)) → ArePlaces names find → AreSteps find pairs steps
     → (p q : ℕ) → Contains {X = ℕ × ℕ} steps (p, q) → Contains {X = ℕ × ℕ} pairs (get_or names p 0, get_or names q 0)
 step_named names find pairs steps h s p q (k, inside, at) =
     let size = s.sized in
@@ -43,7 +43,7 @@ step_named names find pairs steps h s p q (k, inside, at) =
     subst (λ (x : ℕ). Contains {X = ℕ × ℕ} pairs (x, get_or names q 0)) (sym first)
     (subst (λ (x : ℕ). Contains {X = ℕ × ℕ} pairs ((step_at pairs k).0, x)) (sym second) (Contains-get_or pairs k (0, 0) low))
 
-named_step : (find : ℕ → Option ℕ) (pairs steps : List (ℕ × ℕ)) → AreSteps find pairs steps → (a b : ℕ) → Contains {X = ℕ × ℕ} pairs (a, b)
+pub named_step : (find : ℕ → Option ℕ) (pairs steps : List (ℕ × ℕ)) → AreSteps find pairs steps → (a b : ℕ) → Contains {X = ℕ × ℕ} pairs (a, b)
     → (p q : ℕ) × Contains {X = ℕ × ℕ} steps (p, q) × (find a ≡ Some p) × (find b ≡ Some q)
 named_step find pairs steps s a b (k, low, at) =
     let size = s.sized in

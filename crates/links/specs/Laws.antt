@@ -1,13 +1,15 @@
 -- What a reader would expect of the definitions.
-use Rattle.std.specs.Prelude.{◌≡◌, ◌↔◌, ℕ, ℤ, Bool, true, false, ◌&&◌, ◌||◌, not, List, ◌++◌, Contains}
+use Rattle.std.specs.Prelude.{◌≡◌, ◌↔◌, ℕ, ℤ, Bool, true, false, ◌&&◌, ◌||◌, not, List, ◌++◌, map, Contains}
 use Rattle.std.specs.List.{filter}
 use Rattle.graphs.specs.Graphs.{IsAncestor}
-use Rattle.graphs.specs.Closures.{Closure, is_member, is_ancestor, rate_of, IsOrder, AddsPair}
+use Rattle.graphs.specs.Closures.{Closure, is_member, is_ancestor, rate_of, IsOrder, AddsPair, SetsFee, AreLinked}
 use Rattle.graphs.specs.Closing.{IsClosureOf}
-use Rattle.links.specs.Links.{Links, AreLinks, Has, graph}
+use Rattle.links.specs.Links.{Links, AreLinks, AreSame, Has, graph}
 use Rattle.links.specs.Kept.{names_of}
 use Rattle.links.specs.Pairs.{AreAcross, AreSplit, HasMore}
 use Rattle.links.specs.Leaving.{KeepAncestors, goes}
+use Rattle.links.specs.Pricing.{priced}
+use Rattle.links.specs.Parts.{AreComponentsOf}
 use Rattle.links.specs.Closing.{closure}
 
 -- The closure of links is that of their graph: its members are their names with their fees and sizes, and one is above another exactly
@@ -58,7 +60,31 @@ WithoutDropsPlaces =
     (old new : Links) (gone : List ℕ) → AreLinks old → AreLinks new → new.txs ≡ filter (λ tx. not (goes gone tx.0)) old.txs
     → KeepAncestors old.pairs gone new.pairs → DropsPlaces (closure old) (closure new) (goes gone)
 
+-- Another fee of one name is another fee of one member.
+abbrev pub PricedSetsFee : Type 0
+PricedSetsFee =
+    (old new : Links) (id : ℕ) (fee : ℤ) → AreLinks old → AreLinks new → Has old id → new.txs ≡ map (priced id fee) old.txs
+    → AreSame old.pairs new.pairs → SetsFee (closure old) (closure new) id fee
+
 pub record ChangesAreClosed : Type 0 where
   pub linked : LinkedAddsPair
   pub joined : JoinedJoins
   pub without : WithoutDropsPlaces
+  pub priced : PricedSetsFee
+
+-- ---- components
+
+-- The closure falls into those of parts: a member of it is one of some part, with the rate that it has there, and one member is above
+-- another where it is so in some part. Each part is of one component.
+pub record FallsInto (old : Links) (parts : List Links) : Type 0 where
+  pub members : (id : ℕ) → (is_member (closure old) id ≡ true) ↔ ((part : Links) × Contains parts part × (is_member (closure part) id ≡ true))
+  pub rates : (part : Links) → Contains parts part → (id : ℕ) → Has part id → rate_of (closure part) id ≡ rate_of (closure old) id
+  pub ancestors : (a d : ℕ)
+      → (is_ancestor (closure old) a d ≡ true) ↔ ((part : Links) × Contains parts part × (is_ancestor (closure part) a d ≡ true))
+  pub whole : (part : Links) → Contains parts part → (a b : ℕ) → Has part a → Has part b → AreLinked (closure part) a b
+
+-- The closure of links falls into those of their components.
+abbrev pub ComponentsAreClosed : Type 0
+ComponentsAreClosed =
+    (old : Links) (parts : List Links) → AreLinks old → ((part : Links) → Contains parts part → AreLinks part) → AreComponentsOf old parts
+    → FallsInto old parts

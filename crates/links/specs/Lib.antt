@@ -5,5 +5,8 @@ pub mod Places
 pub mod Pairs
 pub mod Kept
 pub mod Leaving
+pub mod Pricing
+pub mod Parts
+pub mod Gathering
 pub mod Closing
 pub mod Laws

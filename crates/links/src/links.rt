@@ -1,17 +1,22 @@
-ghost use Rattle.std.specs.Prelude.{◌≡◌, ◌↔◌, ℕ, ◌++◌, not, Contains, IsTrue, IfOk};
+ghost use Rattle.std.specs.Prelude.{◌≡◌, ◌↔◌, ℕ, ◌++◌, not, map, Contains, IsTrue, IfOk};
 ghost use Rattle.std.specs.List.{filter};
 ghost use Rattle.lists.specs.Distinct.{AreDistinct};
+ghost use Rattle.fee_rate.specs.Limits.{IsFee};
 ghost use Rattle.graphs.specs.Graphs.{IsAncestor, HasNoCycle};
 ghost use Rattle.links.specs.Links.{AreAmong, AreInRange, AreLinks, AreSame, Has};
 ghost use Rattle.links.specs.Kept.{coming, names_of};
 ghost use Rattle.links.specs.Pairs.{AreAcross, AreSplit, HasMore};
 ghost use Rattle.links.specs.Leaving.{ArePairsLeft, KeepAncestors, goes};
+ghost use Rattle.links.specs.Pricing.{priced};
+ghost use Rattle.links.specs.Parts.{AreComponentsOf};
 
+use crate::gathering::components;
 use crate::link_walk::LinkWalk;
 use crate::listing::{has_place, list_names};
 use crate::making::{joined, linked, without};
 use crate::maps::{Maps, maps_of, place_of};
 use crate::pairs::each_once;
+use crate::pricing::with_fee;
 use crate::walker::{Walker, walk};
 use graphs::TxId;
 use outside::NoMemory;
@@ -117,6 +122,32 @@ impl Links {
         ensures ancestors { IfOk result (λ links. KeepAncestors self.now.pairs names.now links.pairs) }
     {
         without(alloc, self.txs(), self.pairs(), names)
+    }
+
+    /// Makes the links in which one name has another fee, in satoshis. These links stay as they are. The work is linear in transactions
+    /// and pairs.
+    pub fn with_fee(&self, alloc: Global, id: TxId, fee: i64) -> Result<Links, NoMemory>
+        requires id { Has self.now id }
+        requires fee { IsFee fee }
+        ensures txs { IfOk result (λ links. links.txs ≡ map (priced id fee) self.now.txs) }
+        ensures pairs { IfOk result (λ links. AreSame self.now.pairs links.pairs) }
+    {
+        with_fee(alloc, self.txs(), self.pairs(), id, fee)
+    }
+
+    /// Makes the links of each component, in the order of the first name of each. These links stay as they are. The work is linear in
+    /// transactions and pairs, for all components together.
+    pub fn components(&self, alloc: Global) -> Result<Vec<Links>, NoMemory>
+        ensures { IfOk result (λ parts. AreComponentsOf self.now parts.items) }
+    {
+        let _walker = &self.walker;
+        let _listed = &self.listed;
+        components(
+            alloc,
+            self.txs.as_slice(),
+            self.pairs.as_slice(),
+            &self.maps,
+        )
     }
 
     /// The transactions, each a name, a fee in satoshis and a size in virtual bytes.
