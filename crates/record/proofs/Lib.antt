@@ -1,0 +1,15 @@
+pub mod Covering
+pub mod Ordered
+pub mod Equal
+pub mod Connected
+pub mod Parenting
+pub mod Making
+pub mod Fitting
+pub mod Keeping
+pub mod Linking
+pub mod Merging
+pub mod Rating
+pub mod Likeness
+pub mod Together
+pub mod Priced
+pub mod Lone

@@ -1,0 +1,4 @@
+pub mod Records
+pub mod Kept
+pub mod Parents
+pub mod Changes
