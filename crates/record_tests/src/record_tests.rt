@@ -47,25 +47,25 @@ fn with_child<L: Ledger>(
     alloc: Global,
     work: &mut Work<2>,
     steps: &mut Steps<L>,
-    record: &Record<2>,
+    older: &Record<2>,
     parent: TxId,
     id: TxId,
 ) -> Result<Record<2>, Fail>
-    requires { IsFitted 128 LIMITS record.now }
+    requires { IsFitted 128 LIMITS older.now }
     ensures { IfOk result (IsFitted 128 LIMITS) }
 {
-    assert!(rt; record.names().len() < 100);
-    assert!(rt; stands_in(record.names(), parent));
-    assert!(rt; !stands_in(record.names(), id));
+    assert!(rt; older.names().len() < 100);
+    assert!(rt; stands_in(older.names(), parent));
+    assert!(rt; !stands_in(older.names(), id));
     let other = single(alloc, work, steps, id)?;
-    Ok(record.joined(alloc, &other, parent, id, &LIMITS, work, steps)?)
+    Ok(older.joined(alloc, &other, parent, id, &LIMITS, work, steps)?)
 }
 
 // Whether one name of a record is an ancestor of another.
-fn leads(rt: &impl Abort, record: &mut Record<2>, a: TxId, b: TxId) -> bool {
-    assert!(rt; stands_in(record.names(), a));
-    assert!(rt; stands_in(record.names(), b));
-    record.reaches(a, b)
+fn leads(rt: &impl Abort, chain: &mut Record<2>, a: TxId, b: TxId) -> bool {
+    assert!(rt; stands_in(chain.names(), a));
+    assert!(rt; stands_in(chain.names(), b));
+    chain.reaches(a, b)
 }
 
 // The record in which one of its names has a fee of 70.
@@ -74,11 +74,11 @@ fn with_more<L: Ledger>(
     alloc: Global,
     work: &mut Work<2>,
     steps: &mut Steps<L>,
-    record: &Record<2>,
+    older: &Record<2>,
     id: TxId,
 ) -> Result<Record<2>, Fail> {
-    assert!(rt; stands_in(record.names(), id));
-    Ok(record.with_fee(alloc, id, 70, work, steps)?)
+    assert!(rt; stands_in(older.names(), id));
+    Ok(older.with_fee(alloc, id, 70, work, steps)?)
 }
 
 // Asserts what is told of a chain of three names, which is over the limits.
