@@ -1,5 +1,5 @@
 -- Which of two parts walks show first, and where the parts and the names of a cluster stand among those of a level.
-use Rattle.std.proofs.Common.{◌≡◌, ◌↔◌, ◌⊎◌, ℕ, ◌+◌, ◌<◌, Bool, true, List, ◌++◌, ◌∷◌, map, flat_map, length, get_or, Contains, Option, arith, inl, inr, sym, ap, ap₂, ◌∙◌, subst}
+use Rattle.std.proofs.Common.{◌≡◌, ◌↔◌, ◌⊎◌, ℕ, ◌+◌, ◌<◌, Bool, true, List, [], refl, ◌++◌, ◌∷◌, map, flat_map, length, get_or, Contains, Option, arith, inl, inr, sym, ap, ap₂, ◌∙◌, subst}
 use Rattle.std.proofs.lemmas.List.{append_assoc}
 use Rattle.std.proofs.lemmas.List.Elements.{Contains-append_cases, Contains-append_left, Contains-append_right}
 use Rattle.std.proofs.lemmas.List.Folds.{flat_map-map}
@@ -21,6 +21,7 @@ use Rattle.chunk_index.specs.Items.{Items, is_in}
 use Rattle.chunk_index.specs.KeyOrder.{key_cmp}
 use Rattle.chunk_index.specs.Keys.{IsInOrder}
 use Rattle.cluster.specs.Clusters.{Cluster, IsCluster}
+use Rattle.record.specs.Records.{IsRecord}
 use Rattle.cluster.proofs.Placed.{beyond, closed}
 use Rattle.cluster_store.specs.Laws.{Stands, StandsAt, PartsStandInOrder, AllStandInOrder, names_in_order}
 use Rattle.cluster_store.specs.Stores.{Stored, Store, Shown, IsStore, key_in, key_at, no_part, parts_in, part_at, parts_of_level, passes, places_by, places_in, shown_at}
@@ -103,8 +104,8 @@ module _ (most : ℕ) (level : Level) (store : Store) (is : IsStore most store) 
     passes_test : passes (is_in level) (finmap.get store.clusters n) ≡ true
     passes_test = ap (passes (is_in level)) stands.1 ∙ stands.3
 
-    whole : IsCluster most c
-    whole = subst (IsCluster most) stands.2 (is.whole n stands.0 stands.1)
+    whole : (c.parts ≡ [] → ⊥) → IsCluster most c
+    whole = (subst (IsRecord most) stands.2 (is.whole n stands.0 stands.1)).ordered
 
     -- the places of its parts
     own : List (ℕ × ℕ)
@@ -114,13 +115,28 @@ module _ (most : ℕ) (level : Level) (store : Store) (is : IsStore most store) 
         → part_at store.clusters (n, 0 + j) ≡ get_or (parts_in (finmap.get store.clusters n)) j no_part
     follows j low = let same : 0 + j ≡ j = omega arith in ap (λ k. get_or (parts_in (finmap.get store.clusters n)) k no_part) same
 
-    own_sorted : IsInOrder (key_at store.clusters) own
+    ordered_sorted : IsCluster most c → IsInOrder (key_at store.clusters) own
     unfolding own
-    own_sorted =
-        let graph = closures_have_graphs (beyond c.names) c.graph (closed most c whole) in
+    ordered_sorted cluster =
+        let graph = closures_have_graphs (beyond c.names) c.graph (closed most c cluster) in
         places_in_order store.clusters n 0 (parts_in (finmap.get store.clusters n)) follows
-        (subst (λ (ps : List Part). Falls (map (λ (part : Part). part.rate) ps)) (sym of_cluster) (part_rates most c whole graph.0 graph.2))
-        (λ p here. part_sizes most c whole graph.0 graph.2 p (subst (λ (ps : List Part). Contains ps p) of_cluster here))
+        (subst (λ (ps : List Part). Falls (map (λ (part : Part). part.rate) ps)) (sym of_cluster) (part_rates most c cluster graph.0 graph.2))
+        (λ p here. part_sizes most c cluster graph.0 graph.2 p (subst (λ (ps : List Part). Contains ps p) of_cluster here))
+
+    -- without parts there is no place
+    none_sorted : c.parts ≡ [] → IsInOrder (key_at store.clusters) own
+    unfolding own IsInOrder
+    none_sorted none = subst (λ (ps : List Part). IsInOrder (key_at store.clusters) (places_from n 0 ps)) (sym (of_cluster ∙ none)) tt
+
+    own_sorted : IsInOrder (key_at store.clusters) own
+    own_sorted = by c.parts refl
+      where
+        by : (ps : List Part) → c.parts ≡ ps → IsInOrder (key_at store.clusters) own
+        by [] none = none_sorted none
+        by (p ∷ ps) some = ordered_sorted (whole (λ none. nonempty (sym some ∙ none)))
+          where
+            nonempty : p ∷ ps ≡ [] → ⊥
+            nonempty e = cc
 
     own_low : (x : ℕ × ℕ) → Contains own x → (x.0 ≡ n) × (x.1 < length (parts_in (finmap.get store.clusters x.0)))
     unfolding own

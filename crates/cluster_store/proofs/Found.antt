@@ -1,7 +1,8 @@
 -- What stands under a number, read from the slots.
 use Rattle.std.proofs.Common.{◌≡◌, ℕ, Option, Some, None, MatchOption, IfSome, sym, ◌∙◌, subst}
 use Rattle.std.specs.FinMap as finmap
-use Rattle.cluster.specs.Clusters.{Cluster, IsCluster}
+use Rattle.cluster.specs.Clusters.{Cluster}
+use Rattle.record.specs.Records.{IsRecord}
 use Rattle.cluster_store.specs.Stores.{Stored, Numbered}
 use Rattle.cluster_store.specs.Kept.{Slots, at, shelved}
 use Rattle.cluster_store.proofs.Shelves.{get_shelved}
@@ -14,7 +15,7 @@ read_by (Some x) read f slots n clusters same h = (h.0, subst (λ (m : Numbered)
 
 -- what is lent of a slot is whole, where each slot is
 pub whole_by : {A : Type 0} (r : Option A) (read : A → Cluster) (most : ℕ) (slots : Slots) (n : ℕ)
-    → ((m : ℕ) (s : Stored) → at slots m ≡ Some s → IsCluster most s.cluster)
-    → MatchOption r (at slots n ≡ None) (λ x. (s : Stored) × (at slots n ≡ Some s) × (read x ≡ s.cluster)) → IfSome r (λ x. IsCluster most (read x))
+    → ((m : ℕ) (s : Stored) → at slots m ≡ Some s → IsRecord most s.cluster)
+    → MatchOption r (at slots n ≡ None) (λ x. (s : Stored) × (at slots n ≡ Some s) × (read x ≡ s.cluster)) → IfSome r (λ x. IsRecord most (read x))
 whole_by None read most slots n whole h = tt
-whole_by (Some x) read most slots n whole h = subst (IsCluster most) (sym h.2) (whole n h.0 h.1)
+whole_by (Some x) read most slots n whole h = subst (IsRecord most) (sym h.2) (whole n h.0 h.1)

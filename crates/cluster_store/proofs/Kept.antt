@@ -6,7 +6,8 @@ use Rattle.std.specs.FinMap as finmap
 use Rattle.graphs.specs.Closures.{rate_of}
 use Rattle.chunk_index.specs.declared.entry.Tag.{Tag}
 use Rattle.chunk_index.specs.Items.{Items}
-use Rattle.cluster.specs.Clusters.{IsCluster}
+use Rattle.cluster.specs.Clusters.{}
+use Rattle.record.specs.Records.{IsRecord}
 use Rattle.cluster_store.specs.Stores.{Stored, Numbered, AreWhole, IsLeast, IsStore}
 use Rattle.cluster_store.specs.Changes.{moved_to, Sets}
 use Rattle.cluster_store.specs.Slots.{MovesIn, Writes}
@@ -58,7 +59,7 @@ module _ (slots slots' : Slots) (stood : (m : ℕ) (s : Stored) → at slots' m 
   kept_stood w items items' least kept shown = record {
     narrow = kept.narrow;
     shown = shown;
-    whole = λ m s is. let old = stood m s is in subst (IsCluster (64 * w)) old.2 (kept.whole m old.0 old.1);
+    whole = λ m s is. let old = stood m s is in subst (IsRecord (64 * w)) old.2 (kept.whole m old.0 old.1);
     floor = λ m s is id here.
         let old = stood m s is in
         subst (λ c. least ≤ (rate_of c.graph id).size) old.2 (kept.floor m old.0 old.1 id (subst (λ c. Contains c.names id) (sym old.2) here));

@@ -40,3 +40,4 @@ pub mod Origins
 pub mod Turning
 pub mod Listing
 pub mod Callers
+pub mod Lacking

@@ -1,7 +1,8 @@
 -- Clusters that take the places of others, told by their numbers.
 use Rattle.std.proofs.Common.{◌≡◌, ℕ, List, map, Contains, sym, ap, ◌∙◌, subst}
 use Rattle.lists.proofs.Entries.{map-Contains}
-use Rattle.cluster.specs.Clusters.{Cluster, IsCluster}
+use Rattle.cluster.specs.Clusters.{Cluster}
+use Rattle.record.specs.Records.{IsRecord}
 use Rattle.cluster_store.specs.Stores.{Exchange, Numbered}
 use Rattle.cluster_store.specs.Changes.{AreHeld, ExchangesEach, with_cluster}
 use Rattle.cluster_store.specs.Slots.{AreStored, ExchangesAll}
@@ -22,7 +23,7 @@ list_exchanged exchanged slots slots' old new is is' done =
       others = λ n none. get_shelved slots' n ∙ done.others n none ∙ sym (get_shelved slots n);
     }))
 
-pub list_whole : (most : ℕ) (exchanged : List Exchange) → ((x : Exchange) → Contains exchanged x → IsCluster most x.cluster)
-    → (c : Cluster) → Contains (map (λ x. x.cluster) exchanged) c → IsCluster most c
+pub list_whole : (most : ℕ) (exchanged : List Exchange) → ((x : Exchange) → Contains exchanged x → IsRecord most x.cluster)
+    → (c : Cluster) → Contains (map (λ x. x.cluster) exchanged) c → IsRecord most c
 list_whole most exchanged whole c here =
-    let x = map-Contains (λ (y : Exchange). y.cluster) exchanged c here in subst (IsCluster most) x.2 (whole x.0 x.1)
+    let x = map-Contains (λ (y : Exchange). y.cluster) exchanged c here in subst (IsRecord most) x.2 (whole x.0 x.1)

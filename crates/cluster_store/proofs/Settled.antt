@@ -1,11 +1,11 @@
 -- Where a staging is closed and a level stays.
-use Rattle.std.proofs.Common.{◌≡◌, ℕ, ◌*◌, ◌<◌, Bool, true, false, cond, List, [], ◌∷◌, ◌++◌, map, length, get_or, filter, nat_eq, Option, Some, None, is_some, Contains, inl, inr, refl, sym, ap, ◌∙◌, subst, arith}
+use Rattle.std.proofs.Common.{◌≡◌, ℕ, ◌*◌, ◌<◌, Bool, true, false, cond, List, [], ◌∷◌, ◌++◌, map, length, get_or, filter, nat_eq, Option, Some, None, is_some, Contains, ◌⊎◌, inl, inr, refl, sym, ap, ◌∙◌, subst, arith}
 use Rattle.std.proofs.lemmas.Bool.{cases_eq, false_from_ne_true}
-use Rattle.std.proofs.lemmas.List.{append-nil}
+use Rattle.std.proofs.lemmas.List.{append-nil, map-id}
 use Rattle.std.proofs.lemmas.List.Elements.{Contains-append_left, Contains-push, Contains-push_cases, filter-append, Contains-get_or}
-use Rattle.std.proofs.lemmas.Option.{none-some, same_Some, slice_get-get_or}
+use Rattle.std.proofs.lemmas.Option.{none-some, same_Some, slice_get-get_or, slice_get_within}
 use Rattle.std.specs.Cmp.{unsigned_Decides}
-use Rattle.std.specs.List.{AllByRecursion, slice_get}
+use Rattle.std.specs.List.{AllByRecursion, list_any, slice_get}
 use Rattle.std.specs.Ordering.{is_eq}
 use Rattle.std.specs.declared.cmp.Ordering.TheVariants.{Less}
 use Rattle.lists.proofs.Entries.{Contains-filter, filter-Contains, map-Contains, Contains-map}
@@ -20,62 +20,61 @@ use Rattle.chunk_index.specs.KeyOrder.{key_cmp}
 use Rattle.chunk_index.specs.Keys.{key_of, IsInOrder}
 use Rattle.chunk_index.specs.Items.{Items, item_key, AreInOrder, same_tag, is_in, shared, entries_by, entries_in, entries_tagged}
 use Rattle.chunk_index.proofs.Tags.{entries_in_order}
-use Rattle.cluster.specs.Clusters.{Cluster, IsCluster}
-use Rattle.cluster.proofs.Placed.{in_order, in_a_part}
+use Rattle.graphs.specs.Certificates.{Part}
+use Rattle.cluster.specs.Clusters.{Cluster}
 use Rattle.cluster_store.specs.Keys.{key_part}
 use Rattle.cluster_store.specs.Stores.{Stored, no_part}
 use Rattle.cluster_store.specs.Changes.{moved_to, settled_to, settled}
-use Rattle.cluster_store.specs.Slots.{Done, MovesIn, MovesFirsts, HaveParts, firsts, other_tag}
+use Rattle.cluster_store.specs.Slots.{Done, MovesIn, MovesFirsts, Writes, firsts, other_tag}
+use Rattle.cluster_store.specs.Unordered.{IsUnordered, settled_by, settled_unordered}
 use Rattle.chunk_index.specs.Settling.{alone}
 use Rattle.cluster_store.specs.Kept.{Slots, at, same_key, found, has_rate, is_rate, tag_for, AreNumbered, IsShown, IsKept}
 use Rattle.cluster_store.proofs.Done.{done_none}
 use Rattle.cluster_store.proofs.Founds.{same_is, same_turned}
 use Rattle.cluster_store.proofs.Fresh.{rate_here}
+use Rattle.cluster_store.proofs.Lacking.{listed_contains}
 use Rattle.cluster_store.proofs.Kept.{kept_stood, moved_cluster}
 use Rattle.cluster_store.proofs.Walks.{all_at, found_listed, listed_found, part_of_item}
 
 -- ---- one entry more of a walk
 
+-- One number more had a change that changes nothing where it was made before.
+module _ {X : Type 0} (number : X → ℕ) (f : Option Stored → Option Stored) (twice : (o : Option Stored) → f (f o) ≡ f o)
+    (xs : List X) (x : X) (old cur new : Slots) (done : Done number (λ y. f) xs old cur) (writes : Writes cur new (number x) (f (at cur (number x)))) where
+  -- it was made there before, or what stands there is as it was
+  made_once : f (at cur (number x)) ≡ f (at old (number x))
+  made_once = elim (told_number (map number xs) (number x)) [
+    | inl listed ↦
+        let y = map-Contains number xs (number x) listed in
+        ap f (ap (at cur) (sym y.2) ∙ done.each y.0 y.1 ∙ ap (λ n. f (at old n)) y.2) ∙ twice (at old (number x))
+    | inr none ↦ ap f (done.others (number x) none)
+  ]
+
+  pub more_done : Done number (λ y. f) (xs ++ x ∷ []) old new
+  more_done = record {
+    each = λ y here. elim (cases_eq (number y) (number x)) [
+      | inl same ↦ ap (at new) same ∙ writes.changed ∙ made_once ∙ ap (λ n. f (at old n)) (sym same)
+      | inr other ↦ elim (Contains-push_cases xs x y here) [
+        | inl before ↦ writes.others (number y) other ∙ done.each y before
+        | inr same ↦ absurd (other (ap number (sym same)))
+      ]
+    ];
+    others = λ m none.
+        writes.others m
+        (λ same. none (subst (Contains (map number (xs ++ x ∷ []))) (sym same) (Contains-map number (xs ++ x ∷ []) x (Contains-push xs x))))
+        ∙ done.others m (λ here.
+        let y = map-Contains number xs m here in
+        none (subst (Contains (map number (xs ++ x ∷ []))) y.2
+        (Contains-map number (xs ++ x ∷ []) y.0 (Contains-append_left xs (x ∷ []) y.0 y.1))));
+  }
+
+-- to move twice is to move once
+moved_twice : (t : Option Tag) (o : Option Stored) → moved_to t (moved_to t o) ≡ moved_to t o
+moved_twice None o = refl
+moved_twice (Some t) None = refl
+moved_twice (Some t) (Some s) = refl
+
 module _ (to : Option Tag) where
-  -- to move twice is to move once
-  moved_twice : (o : Option Stored) → moved_to to (moved_to to o) ≡ moved_to to o
-  moved_twice o = by to o
-    where
-      by : (t : Option Tag) (o : Option Stored) → moved_to t (moved_to t o) ≡ moved_to t o
-      by None o = refl
-      by (Some t) None = refl
-      by (Some t) (Some s) = refl
-
-  module _ (xs : List Entry) (x : Entry) (old cur new : Slots) (done : Done (λ e. e.number) (λ e. moved_to to) xs old cur)
-      (moves : MovesIn cur new x.number to) where
-    -- it moved before, or stands as it stood
-    moved_once : moved_to to (at cur x.number) ≡ moved_to to (at old x.number)
-    moved_once = elim (told_number (map (λ (e : Entry). e.number) xs) x.number) [
-      | inl listed ↦
-          let y = map-Contains (λ (e : Entry). e.number) xs x.number listed in
-          ap (moved_to to) (ap (at cur) (sym y.2) ∙ done.each y.0 y.1 ∙ ap (λ n. moved_to to (at old n)) y.2) ∙ moved_twice (at old x.number)
-      | inr none ↦ ap (moved_to to) (done.others x.number none)
-    ]
-
-    more_moved : Done (λ e. e.number) (λ e. moved_to to) (xs ++ x ∷ []) old new
-    more_moved = record {
-      each = λ y here. elim (cases_eq y.number x.number) [
-        | inl same ↦ ap (at new) same ∙ moves.changed ∙ moved_once ∙ ap (λ n. moved_to to (at old n)) (sym same)
-        | inr other ↦ elim (Contains-push_cases xs x y here) [
-          | inl before ↦ moves.others y.number other ∙ done.each y before
-          | inr same ↦ absurd (other (ap (λ (e : Entry). e.number) (sym same)))
-        ]
-      ];
-      others = λ m none.
-          moves.others m
-          (λ same. none (subst (Contains (map (λ (e : Entry). e.number) (xs ++ x ∷ []))) (sym same)
-          (Contains-map (λ (e : Entry). e.number) (xs ++ x ∷ []) x (Contains-push xs x))))
-          ∙ done.others m (λ here.
-          let y = map-Contains (λ (e : Entry). e.number) xs m here in
-          none (subst (Contains (map (λ (e : Entry). e.number) (xs ++ x ∷ []))) y.2
-          (Contains-map (λ (e : Entry). e.number) (xs ++ x ∷ []) y.0 (Contains-append_left xs (x ∷ []) y.0 y.1))));
-    }
-
   pub firsts_begin : (slots : Slots) → MovesFirsts to [] slots slots
   unfolding firsts
   firsts_begin slots = done_none (λ (e : Entry). e.number) (λ e. moved_to to) slots
@@ -88,7 +87,7 @@ module _ (to : Option Tag) where
       filter-append (λ (d : Entry). nat_eq d.position 0) es (e ∷ [])
       ∙ ap (λ b. filter (λ (d : Entry). nat_eq d.position 0) es ++ cond b (e ∷ []) []) ((unsigned_Decides e.position 0).1 is) in
       subst (λ (xs : List Entry). Done (λ d. d.number) (λ d. moved_to to) xs old new) (sym all)
-      (more_moved (filter (λ (d : Entry). nat_eq d.position 0) es) e old cur new done moves)
+      (more_done (λ (d : Entry). d.number) (moved_to to) (moved_twice to) (filter (λ (d : Entry). nat_eq d.position 0) es) e old cur new done moves)
 
   pub firsts_passed : (es : List Entry) (e : Entry) (old cur : Slots) → MovesFirsts to es old cur → (e.position ≡ 0 → ⊥)
       → MovesFirsts to (es ++ e ∷ []) old cur
@@ -142,15 +141,21 @@ module _ (slots : Slots) (items : Items) (shown : IsShown slots items) where
   own_number : (i : Entry × Tag) → Contains items i → i.0.number ≡ i.0.serial
   own_number i here = all_at (λ (j : Entry × Tag). j.0.number ≡ j.0.serial) items i shown.sorted.1 here
 
-  -- they have that tag
-  listed_stands : (tag : Tag) (n : ℕ) → Contains (numbers_tagged tag items) n → (s : Stored) × (at slots n ≡ Some s) × (s.tag ≡ tag)
+  -- they have that tag, and a part
+  listed_stands : (tag : Tag) (n : ℕ) → Contains (numbers_tagged tag items) n
+      → (s : Stored) × (at slots n ≡ Some s) × (s.tag ≡ tag) × (0 < length s.cluster.parts)
   unfolding firsts
   listed_stands tag n here =
       let e = map-Contains (λ (d : Entry). d.number) (filter (λ (d : Entry). nat_eq d.position 0) (entries_tagged tag items)) n here in
       let listed = (filter-Contains (λ (d : Entry). nat_eq d.position 0) (entries_tagged tag items) e.0 e.1).1 in
       let tagged = listed_passes (same_tag tag) items e.0 listed in
       let is = part_of_item slots items shown (e.0, tagged.0) tagged.1 in
-      (is.stored, ap (at slots) (sym e.2 ∙ own_number (e.0, tagged.0) tagged.1) ∙ is.there, is.tag ∙ sym (same_tag_is tag tagged.0 tagged.2))
+      let low = slice_get_within is.stored.cluster.parts e.0.position is.part is.here in (
+        is.stored,
+        ap (at slots) (sym e.2 ∙ own_number (e.0, tagged.0) tagged.1) ∙ is.there,
+        is.tag ∙ sym (same_tag_is tag tagged.0 tagged.2),
+        omega (arith, low),
+      )
 
   -- and there are no others
   stands_listed : (n : ℕ) (s : Stored) → at slots n ≡ Some s → 0 < length s.cluster.parts → Contains (numbers_tagged s.tag items) n
@@ -172,9 +177,16 @@ module _ (slots : Slots) (items : Items) (shown : IsShown slots items) where
   not_listed : (tag : Tag) (n : ℕ) → ((s : Stored) → at slots n ≡ Some s → s.tag ≡ tag → ⊥) → Contains (numbers_tagged tag items) n → ⊥
   not_listed tag n other here = let s = listed_stands tag n here in other s.0 s.1 s.2
 
+  -- nor is a cluster without parts
+  bare_listed : (tag : Tag) (n : ℕ) (s : Stored) → at slots n ≡ Some s → s.cluster.parts ≡ [] → Contains (numbers_tagged tag items) n → ⊥
+  bare_listed tag n s is none here =
+      let t = listed_stands tag n here in
+      let bare : length t.0.cluster.parts ≡ 0 = ap (λ (u : Stored). length u.cluster.parts) (same_Some t.0 s (sym t.1 ∙ is)) ∙ ap length none in
+      omega (arith, t.3, bare)
+
   -- ---- what becomes of each
 
-  module _ (parts : HaveParts slots) (own other : Tag) (apart : own ≡ other → ⊥) (mid new : Slots)
+  module _ (own other : Tag) (apart : own ≡ other → ⊥) (mid new : Slots)
       (first : MovesFirsts (Some Both) (entries_tagged own items) slots mid)
       (second : MovesFirsts None (entries_tagged other items) mid new) where
     stays_free : (n : ℕ) → at slots n ≡ None → at new n ≡ None
@@ -191,17 +203,17 @@ module _ (slots : Slots) (items : Items) (shown : IsShown slots items) where
           second.others n (not_listed other n (other_one other not_other)) ∙ first.others n (not_listed own n (other_one own not_own))
           ∙ is ∙ ap (λ (t : Tag). Some (record { cluster = s.cluster; tag = t })) both
 
-      comes_in : s.tag ≡ own → at new n ≡ moved_to (Some Both) (Some s)
-      comes_in tagged =
+      comes_in : 0 < length s.cluster.parts → s.tag ≡ own → at new n ≡ moved_to (Some Both) (Some s)
+      comes_in low tagged =
           let e = map-Contains (λ (d : Entry). d.number) (firsts (entries_tagged own items)) n
-          (subst (λ (t : Tag). Contains (numbers_tagged t items) n) tagged (stands_listed n s is (parts n s is))) in
+          (subst (λ (t : Tag). Contains (numbers_tagged t items) n) tagged (stands_listed n s is low)) in
           second.others n (not_listed other n (other_one other (λ t. apart (sym tagged ∙ t))))
           ∙ ap (at mid) (sym e.2) ∙ first.each e.0 e.1 ∙ ap (λ m. moved_to (Some Both) (at slots m)) e.2 ∙ ap (moved_to (Some Both)) is
 
-      goes_out : s.tag ≡ other → at new n ≡ moved_to None (Some s)
-      goes_out tagged =
+      goes_out : 0 < length s.cluster.parts → s.tag ≡ other → at new n ≡ moved_to None (Some s)
+      goes_out low tagged =
           let e = map-Contains (λ (d : Entry). d.number) (firsts (entries_tagged other items)) n
-          (subst (λ (t : Tag). Contains (numbers_tagged t items) n) tagged (stands_listed n s is (parts n s is))) in
+          (subst (λ (t : Tag). Contains (numbers_tagged t items) n) tagged (stands_listed n s is low)) in
           ap (at new) (sym e.2) ∙ second.each e.0 e.1
 
 both_main : Both ≡ MainOnly → ⊥
@@ -213,36 +225,149 @@ both_top e = cc
 main_top : MainOnly ≡ TopOnly → ⊥
 main_top e = cc
 
-pub slots_settled : (stays : Level) (slots mid new : Slots) (items : Items) → IsShown slots items → HaveParts slots
+-- what becomes of what is stored where those that have parts are settled
+abbrev first_by : List Part → Level → Stored → Option Stored
+first_by [] stays s = Some s
+first_by (p ∷ ps) stays s = settled stays (Some s)
+
+abbrev settled_first : Level → Option Stored → Option Stored
+settled_first stays None = None
+settled_first stays (Some s) = first_by s.cluster.parts stays s
+
+module _ (stays : Level) (own other : Tag) (apart : own ≡ other → ⊥) (slots mid new : Slots) (items : Items) (shown : IsShown slots items)
+    (first : MovesFirsts (Some Both) (entries_tagged own items) slots mid)
+    (second : MovesFirsts None (entries_tagged other items) mid new) where
+  bare_stays : (n : ℕ) (s : Stored) → at slots n ≡ Some s → s.cluster.parts ≡ [] → at new n ≡ Some s
+  bare_stays n s is none =
+      second.others n (bare_listed slots items shown other n s is none) ∙ first.others n (bare_listed slots items shown own n s is none) ∙ is
+
+  -- each has what it is to have, where each tag has
+  firsts_settled : ((n : ℕ) (s : Stored) → at slots n ≡ Some s → 0 < length s.cluster.parts → at new n ≡ settled stays (Some s))
+      → (n : ℕ) → at new n ≡ settled_first stays (at slots n)
+  firsts_settled each n = of (at slots n) refl
+    where
+      by : (s : Stored) → at slots n ≡ Some s → (ps : List Part) → s.cluster.parts ≡ ps → at new n ≡ first_by ps stays s
+      by s is [] none = bare_stays n s is none
+      by s is (p ∷ ps) some = each n s is (let low : length s.cluster.parts ≡ length (p ∷ ps) = ap length some in omega (arith, low))
+
+      of : (o : Option Stored) → at slots n ≡ o → at new n ≡ settled_first stays o
+      of None is = stays_free slots items shown own other apart mid new first second n is
+      of (Some s) is = by s is s.cluster.parts refl
+
+pub slots_settled : (stays : Level) (slots mid new : Slots) (items : Items) → IsShown slots items
     → MovesFirsts (Some Both) (entries_tagged (alone stays) items) slots mid → MovesFirsts None (entries_tagged (other_tag stays) items) mid new
-    → (n : ℕ) → at new n ≡ settled stays (at slots n)
-slots_settled Main slots mid new items shown parts first second n = of (at slots n) refl
+    → (n : ℕ) → at new n ≡ settled_first stays (at slots n)
+slots_settled Main slots mid new items shown first second =
+    firsts_settled Main MainOnly TopOnly main_top slots mid new items shown first second (λ n s is low. by n s is low s.tag refl)
   where
-    of : (o : Option Stored) → at slots n ≡ o → at new n ≡ settled Main o
-    of None is = stays_free slots items shown parts MainOnly TopOnly main_top mid new first second n is
-    of (Some s) is = by s.tag refl
-      where
-        by : (t : Tag) → s.tag ≡ t → at new n ≡ moved_to (settled_to Main t) (Some s)
-        by Both t =
-            stays_both slots items shown parts MainOnly TopOnly main_top mid new first second n s is
-            (λ e. both_main (sym t ∙ e)) (λ e. both_top (sym t ∙ e)) t
-        by MainOnly t = comes_in slots items shown parts MainOnly TopOnly main_top mid new first second n s is t
-        by TopOnly t = goes_out slots items shown parts MainOnly TopOnly main_top mid new first second n s is t
-slots_settled Top slots mid new items shown parts first second n = of (at slots n) refl
+    by : (n : ℕ) (s : Stored) → at slots n ≡ Some s → 0 < length s.cluster.parts → (t : Tag) → s.tag ≡ t → at new n ≡ moved_to (settled_to Main t) (Some s)
+    by n s is low Both t =
+        stays_both slots items shown MainOnly TopOnly main_top mid new first second n s is (λ e. both_main (sym t ∙ e)) (λ e. both_top (sym t ∙ e)) t
+    by n s is low MainOnly t = comes_in slots items shown MainOnly TopOnly main_top mid new first second n s is low t
+    by n s is low TopOnly t = goes_out slots items shown MainOnly TopOnly main_top mid new first second n s is low t
+slots_settled Top slots mid new items shown first second =
+    firsts_settled Top TopOnly MainOnly (λ e. main_top (sym e)) slots mid new items shown first second (λ n s is low. by n s is low s.tag refl)
   where
     top_main : TopOnly ≡ MainOnly → ⊥
-    top_main e = cc
+    top_main e = main_top (sym e)
 
-    of : (o : Option Stored) → at slots n ≡ o → at new n ≡ settled Top o
-    of None is = stays_free slots items shown parts TopOnly MainOnly top_main mid new first second n is
-    of (Some s) is = by s.tag refl
-      where
-        by : (t : Tag) → s.tag ≡ t → at new n ≡ moved_to (settled_to Top t) (Some s)
-        by Both t =
-            stays_both slots items shown parts TopOnly MainOnly top_main mid new first second n s is
-            (λ e. both_top (sym t ∙ e)) (λ e. both_main (sym t ∙ e)) t
-        by MainOnly t = goes_out slots items shown parts TopOnly MainOnly top_main mid new first second n s is t
-        by TopOnly t = comes_in slots items shown parts TopOnly MainOnly top_main mid new first second n s is t
+    by : (n : ℕ) (s : Stored) → at slots n ≡ Some s → 0 < length s.cluster.parts → (t : Tag) → s.tag ≡ t → at new n ≡ moved_to (settled_to Top t) (Some s)
+    by n s is low Both t =
+        stays_both slots items shown TopOnly MainOnly top_main mid new first second n s is (λ e. both_top (sym t ∙ e)) (λ e. both_main (sym t ∙ e)) t
+    by n s is low MainOnly t = goes_out slots items shown TopOnly MainOnly top_main mid new first second n s is low t
+    by n s is low TopOnly t = comes_in slots items shown TopOnly MainOnly top_main mid new first second n s is low t
+
+-- ---- those without parts
+
+settled_cluster : (stays : Level) (o : Option Stored) (s : Stored) → settled stays o ≡ Some s → (t : Stored) × (o ≡ Some t) × (t.cluster ≡ s.cluster)
+settled_cluster stays None s is = absurd (none-some s is)
+settled_cluster stays (Some t) s is = moved_cluster (settled_to stays t.tag) (Some t) s is
+
+-- a change that leaves nothing, or the cluster in both levels
+came_both : (P : Option Stored → Type 0) (s : Stored) → P None → P (Some (record { cluster = s.cluster; tag = Both }))
+    → (stays : Level) → P (settled stays (Some s))
+came_both P s none both stays = by stays s.tag
+  where
+    by : (level : Level) (t : Tag) → P (moved_to (settled_to level t) (Some s))
+    by Main Both = both
+    by Main MainOnly = both
+    by Main TopOnly = none
+    by Top Both = both
+    by Top MainOnly = none
+    by Top TopOnly = both
+
+module _ (stays : Level) where
+  pub settled_twice : (o : Option Stored) → settled_unordered stays (settled_unordered stays o) ≡ settled_unordered stays o
+  settled_twice None = refl
+  settled_twice (Some s) = by s.cluster.parts refl
+    where
+      both : s.cluster.parts ≡ []
+          → settled_unordered stays (Some (record { cluster = s.cluster; tag = Both })) ≡ Some (record { cluster = s.cluster; tag = Both })
+      both none = ap (λ (ps : List Part). settled_by ps stays (record { cluster = s.cluster; tag = Both })) none
+
+      by : (ps : List Part) → s.cluster.parts ≡ ps → settled_unordered stays (settled_by ps stays s) ≡ settled_by ps stays s
+      by [] none = came_both (λ (o : Option Stored). settled_unordered stays o ≡ o) s refl (both none) stays
+      by (p ∷ ps) some = ap (λ (qs : List Part). settled_by qs stays s) some
+
+  -- those with parts first, and then the others: all are settled
+  settled_rest : (o : Option Stored) → settled_unordered stays (settled_first stays o) ≡ settled stays o
+  settled_rest None = refl
+  settled_rest (Some s) = by s.cluster.parts refl
+    where
+      by : (ps : List Part) → s.cluster.parts ≡ ps → settled_unordered stays (first_by ps stays s) ≡ settled stays (Some s)
+      by [] none = ap (λ (ps : List Part). settled_by ps stays s) none
+      by (p ∷ ps) some =
+          came_both (λ (o : Option Stored). settled_unordered stays o ≡ o) s refl
+          (ap (λ (qs : List Part). settled_by qs stays (record { cluster = s.cluster; tag = Both })) some) stays
+
+  -- one with an order stays for now
+  pub ordered_stays : (o : Option Stored) → (IsUnordered o → ⊥) → settled_unordered stays o ≡ o
+  ordered_stays None ordered = refl
+  ordered_stays (Some s) ordered = by s.cluster.parts refl
+    where
+      by : (ps : List Part) → s.cluster.parts ≡ ps → settled_by s.cluster.parts stays s ≡ Some s
+      by [] none = absurd (ordered (s, refl, none))
+      by (p ∷ ps) some = ap (λ (qs : List Part). settled_by qs stays s) some
+
+  -- none loses its order
+  pub unordered_before : (o : Option Stored) → IsUnordered (settled stays o) → IsUnordered o
+  unordered_before o (s, is, none) =
+      let t = settled_cluster stays o s is in (t.0, t.1, ap (λ (c : Cluster). c.parts) t.2 ∙ none)
+
+  unordered_first : (o : Option Stored) → IsUnordered (settled_first stays o) → IsUnordered o
+  unordered_first None (s, is, none) = absurd (none-some s is)
+  unordered_first (Some s) unordered = by s.cluster.parts refl unordered
+    where
+      by : (ps : List Part) → s.cluster.parts ≡ ps → IsUnordered (first_by ps stays s) → IsUnordered (Some s)
+      by [] none stayed = (s, refl, none)
+      by (p ∷ ps) some settled_one = unordered_before (Some s) settled_one
+
+  pub all_settled : (slots mid new : Slots) (numbers : List ℕ) → ((n : ℕ) → at mid n ≡ settled_first stays (at slots n))
+      → Done (λ n. n) (λ n. settled_unordered stays) numbers mid new → ((n : ℕ) → IsUnordered (at slots n) → Contains numbers n)
+      → (n : ℕ) → at new n ≡ settled stays (at slots n)
+  all_settled slots mid new numbers first done listed n =
+      of (told_number numbers n) ∙ ap (settled_unordered stays) (first n) ∙ settled_rest (at slots n)
+    where
+      none_there : (Contains numbers n → ⊥) → Contains (map (λ (m : ℕ). m) numbers) n → ⊥
+      none_there none here = none (subst (λ (ns : List ℕ). Contains ns n) (map-id numbers) here)
+
+      of : Contains numbers n ⊎ (Contains numbers n → ⊥) → at new n ≡ settled_unordered stays (at mid n)
+      of (inl here) = done.each n here
+      of (inr none) =
+          done.others n (none_there none)
+          ∙ sym (ordered_stays (at mid n) (λ unordered. none (listed n (unordered_first (at slots n) (subst IsUnordered (first n) unordered)))))
+
+-- all of it, by what the walks and the list are
+pub settled_by_all : (stays : Level) (slots mid last new : Slots) (items : Items) (own other : Tag) (first second : List Entry) (numbers keys : List ℕ)
+    → IsShown slots items → own ≡ alone stays → other ≡ other_tag stays → first ≡ entries_tagged own items → second ≡ entries_tagged other items
+    → MovesFirsts (Some Both) first slots mid → MovesFirsts None second mid last → Done (λ n. n) (λ n. settled_unordered stays) numbers last new
+    → numbers ≡ keys → ((n : ℕ) → IsUnordered (at slots n) → list_any (nat_eq n) keys ≡ true) → (n : ℕ) → at new n ≡ settled stays (at slots n)
+settled_by_all stays slots mid last new items own other first second numbers keys shown own_is other_is first_is second_is moves goes done same listed =
+    all_settled stays slots last new numbers
+    (slots_settled stays slots mid last items shown
+    (subst (λ (es : List Entry). MovesFirsts (Some Both) es slots mid) (first_is ∙ ap (λ (t : Tag). entries_tagged t items) own_is) moves)
+    (subst (λ (es : List Entry). MovesFirsts None es mid last) (second_is ∙ ap (λ (t : Tag). entries_tagged t items) other_is) goes))
+    done (λ n unordered. subst (λ (ns : List ℕ). Contains ns n) (sym same) (listed_contains keys n (listed n unordered)))
 
 -- ---- what the index has then
 
@@ -327,21 +452,6 @@ shown_settled stays slots new items items' shown now is = subst (IsShown new) (s
 })
 
 -- ---- what is kept
-
--- a cluster has a name, and so a part
-has_part : (most : ℕ) (c : Cluster) → IsCluster most c → 0 < length c.parts
-has_part most c is =
-    let some = is.some in
-    let name = Contains-get_or c.names 0 0 (omega (arith, some)) in
-    let part = in_a_part c.parts _ (in_order most c is _ name) in
-    omega (arith, part.1.1)
-
-pub have_parts : (w : ℕ) (slots : Slots) (items : Items) (least : ℕ) → IsKept w slots items least → HaveParts slots
-have_parts w slots items least kept n s is = has_part (64 * w) s.cluster (kept.whole n s is)
-
-settled_cluster : (stays : Level) (o : Option Stored) (s : Stored) → settled stays o ≡ Some s → (t : Stored) × (o ≡ Some t) × (t.cluster ≡ s.cluster)
-settled_cluster stays None s is = absurd (none-some s is)
-settled_cluster stays (Some t) s is = moved_cluster (settled_to stays t.tag) (Some t) s is
 
 pub kept_settled : (w : ℕ) (stays : Level) (slots new : Slots) (items items' : Items) (least : ℕ) → IsKept w slots items least
     → ((n : ℕ) → at new n ≡ settled stays (at slots n)) → IsShown new items' → IsKept w new items' least

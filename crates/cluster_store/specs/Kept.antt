@@ -12,7 +12,8 @@ use Rattle.chunk_index.specs.declared.entry.Tag.{Tag}
 use Rattle.chunk_index.specs.declared.key.Key.{Key}
 use Rattle.chunk_index.specs.KeyOrder.{key_cmp}
 use Rattle.chunk_index.specs.Items.{Items, item_key, AreInOrder}
-use Rattle.cluster.specs.Clusters.{Cluster, IsCluster}
+use Rattle.cluster.specs.Clusters.{Cluster}
+use Rattle.record.specs.Records.{IsRecord}
 use Rattle.cluster_store.specs.Stores.{Stored, Exchange, Numbered}
 
 abbrev pub Slots : Type 0
@@ -117,5 +118,5 @@ pub record IsWide (slots : Slots) (waiting : List Exchange) (items : Items) : Ty
 pub record IsKept (w : ℕ) (slots : Slots) (items : Items) (least : ℕ) : Type 0 where
   pub narrow : w ≤ 64
   pub shown : IsShown slots items
-  pub whole : (number : ℕ) (s : Stored) → at slots number ≡ Some s → IsCluster (64 * w) s.cluster
+  pub whole : (number : ℕ) (s : Stored) → at slots number ≡ Some s → IsRecord (64 * w) s.cluster
   pub floor : (number : ℕ) (s : Stored) → at slots number ≡ Some s → (id : ℕ) → Contains s.cluster.names id → least ≤ (rate_of s.cluster.graph id).size

@@ -9,3 +9,4 @@ pub mod Keys
 pub mod Kept
 pub mod Rates
 pub mod Tops
+pub mod Unordered

@@ -84,7 +84,3 @@ firsts entries = filter (λ e. nat_eq e.position 0) entries
 -- each cluster whose first part is among those of some entries goes out, or stands in other levels
 abbrev pub MovesFirsts : Option Tag → List Entry → Slots → Slots → Type 0
 MovesFirsts to entries = Done (λ e. e.number) (λ e. moved_to to) (firsts entries)
-
--- each cluster has a first part
-abbrev pub HaveParts : Slots → Type 0
-HaveParts slots = (number : ℕ) (s : Stored) → at slots number ≡ Some s → 0 < length s.cluster.parts

@@ -12,7 +12,8 @@ use Rattle.chunk_index.specs.declared.entry.Tag.TheVariants.{Both, MainOnly, Top
 use Rattle.chunk_index.specs.declared.key.Key.{Key}
 use Rattle.chunk_index.specs.Items.{is_in, same_tag}
 use Rattle.chunk_index.specs.Keys.{IsInOrder}
-use Rattle.cluster.specs.Clusters.{Cluster, cluster_code, part_code, IsCluster}
+use Rattle.cluster.specs.Clusters.{Cluster, cluster_code, part_code}
+use Rattle.record.specs.Records.{IsRecord}
 
 -- ---- what is kept under a number
 
@@ -144,9 +145,9 @@ parts_of_level level store = map (λ shown. shown.part) (shown_in level store)
 
 -- ---- what holds of every store
 
--- every cluster is one of at most so many names
+-- every cluster is one of at most so many names, or has no order
 abbrev pub AreWhole : ℕ → Numbered → Type 0
-AreWhole most clusters = (number : ℕ) (s : Stored) → finmap.get clusters number ≡ Some s → IsCluster most s.cluster
+AreWhole most clusters = (number : ℕ) (s : Stored) → finmap.get clusters number ≡ Some s → IsRecord most s.cluster
 
 -- no name of a cluster has a smaller size
 abbrev pub IsLeast : Numbered → ℕ → Type 0

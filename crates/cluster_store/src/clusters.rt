@@ -10,7 +10,7 @@ ghost use Rattle.cluster_store.specs.Slots.{AddsOne, AddsTo, AreOut, AreStored, 
 use crate::entries::{enter, entry_of, leave, retag};
 use crate::stored::{Exchange, Stored};
 use chunk_index::{ChunkIndex, Entry, Tag};
-use component::Component;
+use record::Record;
 use outside::NoMemory;
 use slab::Slab;
 use std::alloc::Global;
@@ -27,7 +27,7 @@ pub fn at<const W: usize>(slots: &Slab<Stored<W>>, number: usize) -> &Stored<W>
 }
 
 /// The cluster of a number, if it has one.
-pub fn cluster_of<const W: usize>(slots: &Slab<Stored<W>>, number: usize) -> Option<&Component<W>>
+pub fn cluster_of<const W: usize>(slots: &Slab<Stored<W>>, number: usize) -> Option<&Record<W>>
     ensures { MatchOption result (get slots.now number ≡ None)
         (λ c. (s : Kept) × (get slots.now number ≡ Some s) × (c.now ≡ s.cluster)) }
 {
@@ -150,7 +150,7 @@ pub fn add_clusters<const W: usize>(
     alloc: Global,
     slots: &mut Slab<Stored<W>>,
     index: &mut ChunkIndex,
-    clusters: Vec<Component<W>>,
+    clusters: Vec<Record<W>>,
     tag: Tag,
 ) -> Result<Vec<usize>, NoMemory>
     requires { IsShown slots.old.slots index.old }

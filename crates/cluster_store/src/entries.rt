@@ -6,12 +6,12 @@ ghost use Rattle.cluster_store.specs.Kept.{AreListed, found, fresh, is_rate, par
 ghost use Rattle.cluster_store.specs.Keys.{key_part};
 
 use chunk_index::{ChunkIndex, Entry, Tag};
-use component::Component;
+use record::Record;
 use fee_rate::FeeRate;
 use outside::NoMemory;
 
 /// The entry of the part at a position of a cluster.
-pub fn entry_of<const W: usize>(number: usize, cluster: &Component<W>, at: usize) -> Entry
+pub fn entry_of<const W: usize>(number: usize, cluster: &Record<W>, at: usize) -> Entry
     requires { at < length cluster.now.parts }
     ensures key { (part : Part) → slice_get cluster.now.parts at ≡ Some part → key_of result ≡ key_part number at part }
     ensures number { result.number ≡ number }
@@ -25,7 +25,7 @@ pub fn entry_of<const W: usize>(number: usize, cluster: &Component<W>, at: usize
 }
 
 // Whether the other cluster, if there is one, has a part of that rate at that position.
-fn stays<const W: usize>(other: Option<&Component<W>>, at: usize, rate: FeeRate) -> bool
+fn stays<const W: usize>(other: Option<&Record<W>>, at: usize, rate: FeeRate) -> bool
     ensures { result ≡ is_rate rate (slice_get (parts_of (option_copied other.entry)) at) }
 {
     match other {
@@ -39,8 +39,8 @@ pub fn leave<const W: usize>(
     index: &mut ChunkIndex,
     number: usize,
     tag: Tag,
-    gone: &Component<W>,
-    other: Option<&Component<W>>,
+    gone: &Record<W>,
+    other: Option<&Record<W>>,
     count: usize,
 )
     requires within { count ≤ length gone.now.parts }
@@ -64,8 +64,8 @@ pub fn enter<const W: usize>(
     index: &mut ChunkIndex,
     number: usize,
     tag: Tag,
-    new: &Component<W>,
-    other: Option<&Component<W>>,
+    new: &Record<W>,
+    other: Option<&Record<W>>,
 ) -> Result<(), NoMemory>
     requires absent { (k : Key) → fresh number new.now.parts (parts_of (option_copied other)) k ≡ true
         → found index.old k ≡ None }
@@ -88,7 +88,7 @@ pub fn enter<const W: usize>(
 pub fn retag<const W: usize>(
     index: &mut ChunkIndex,
     number: usize,
-    cluster: &Component<W>,
+    cluster: &Record<W>,
     from: Tag,
     to: Tag,
 )

@@ -52,10 +52,10 @@ fn held<'a, const W: usize>(
 {
     let number = entry.serial as usize;
     match slots.get(number) {
-        Some(stored) => {
-            let cluster = stored.cluster();
-            (cluster.part(entry.position), cluster)
-        }
+        Some(stored) => match stored.cluster().component() {
+            Some(cluster) => (cluster.part(entry.position), cluster),
+            None => unreachable!(),
+        },
         None => unreachable!(),
     }
 }

@@ -17,6 +17,7 @@ mod settling;
 mod store;
 mod stored;
 mod tail;
+mod unordered;
 mod walk;
 
 pub use held::HeldWalk;

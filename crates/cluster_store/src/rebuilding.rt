@@ -8,7 +8,7 @@ ghost use Rattle.cluster_store.specs.Tops.{Exchanged, MainKeeps, MayLeave, TopCh
 use crate::clusters::{add, add_clusters, at, exchange, make_move, take_all};
 use crate::stored::{Exchange, Made, Stored};
 use chunk_index::{ChunkIndex, Tag};
-use component::Component;
+use record::Record;
 use outside::NoMemory;
 use slab::Slab;
 use std::alloc::Global;
@@ -23,8 +23,8 @@ pub fn rebuild<const W: usize>(
     index: &mut ChunkIndex,
     staged: bool,
     outs: &[usize],
-    rest: Vec<Component<W>>,
-    last: Option<Component<W>>,
+    rest: Vec<Record<W>>,
+    last: Option<Record<W>>,
 ) -> Result<Made, NoMemory>
     requires narrow { W ≤ 64 }
     requires shown { IsShown slots.old.slots index.old }
@@ -54,7 +54,7 @@ fn put_last<const W: usize>(
     index: &mut ChunkIndex,
     staged: bool,
     outs: &[usize],
-    last: Option<Component<W>>,
+    last: Option<Record<W>>,
 ) -> Result<Option<usize>, NoMemory>
     requires narrow { W ≤ 64 }
     requires shown { IsShown slots.old.slots index.old }
@@ -80,7 +80,7 @@ fn put_one<const W: usize>(
     index: &mut ChunkIndex,
     staged: bool,
     outs: &[usize],
-    cluster: Component<W>,
+    cluster: Record<W>,
 ) -> Result<usize, NoMemory>
     requires narrow { W ≤ 64 }
     requires shown { IsShown slots.old.slots index.old }
@@ -129,7 +129,7 @@ fn put_under<const W: usize>(
     staged: bool,
     first: usize,
     others: &[usize],
-    cluster: Component<W>,
+    cluster: Record<W>,
 ) -> Result<(), NoMemory>
     requires narrow { W ≤ 64 }
     requires shown { IsShown slots.old.slots index.old }
@@ -151,7 +151,7 @@ fn put_beside<const W: usize>(
     index: &mut ChunkIndex,
     staged: bool,
     outs: &[usize],
-    cluster: Component<W>,
+    cluster: Record<W>,
 ) -> Result<usize, NoMemory>
     requires shown { IsShown slots.old.slots index.old }
     requires may { MayLeave staged outs.now (shelved slots.old.slots) }

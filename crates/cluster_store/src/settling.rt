@@ -1,20 +1,29 @@
 //! What becomes of clusters and of the index of their parts where a staging is closed.
 ghost use Rattle.std.specs.Prelude.{◌≡◌, ℕ};
 ghost use Rattle.slab.specs.Slab.{get};
-ghost use Rattle.cluster_store.specs.Changes.{settled};
+ghost use Rattle.cluster_store.specs.Changes.{settled, settled_to};
 ghost use Rattle.cluster_store.specs.Kept.{IsShown};
-ghost use Rattle.cluster_store.specs.Slots.{HaveParts, MovesFirsts, MovesIn, other_tag};
+ghost use Rattle.cluster_store.specs.Slots.{Done, MovesFirsts, MovesIn, Writes, other_tag};
+ghost use Rattle.cluster_store.specs.Unordered.{ListsUnordered, settled_unordered};
 ghost use Rattle.chunk_index.specs.Settling.{alone};
 
 use crate::stored::Stored;
+use crate::unordered::{is_unordered, tidy};
 use chunk_index::{ChunkIndex, IndexWalk, Tag};
 use graphs::Level;
+use indexmap::IndexSet;
 use slab::Slab;
 
 /// The clusters of the level that stays stand in both levels from now on, and the others go out.
-pub fn settle<const W: usize>(slots: &mut Slab<Stored<W>>, index: &mut ChunkIndex, stays: Level)
+pub fn settle<const W: usize>(
+    slots: &mut Slab<Stored<W>>,
+    index: &mut ChunkIndex,
+    over: &mut IndexSet<usize>,
+    stays: Level,
+)
     requires shown { IsShown slots.old.slots index.old }
-    requires parts { HaveParts slots.old.slots }
+    requires unordered { ListsUnordered over.old slots.old.slots }
+    ensures unordered { ListsUnordered over.new slots.new.slots }
     ensures settled { (number : ℕ) → get slots.new number ≡ settled stays (get slots.old number) }
     ensures shown { IsShown slots.new.slots index.new }
 {
@@ -22,6 +31,8 @@ pub fn settle<const W: usize>(slots: &mut Slab<Stored<W>>, index: &mut ChunkInde
     move_firsts(slots, index.walk_only(own), Some(Tag::Both));
     move_firsts(slots, index.walk_only(other), None);
     index.settle(stays);
+    settle_unordered(slots, over.as_slice(), stays);
+    tidy(slots, over);
 }
 
 // The tag of what stands in that level alone, and of what stands in the other one alone.
@@ -58,5 +69,37 @@ fn move_slot<const W: usize>(slots: &mut Slab<Stored<W>>, number: usize, to: Opt
             }
         }
         None => drop(slots.try_remove(number)),
+    }
+}
+
+// The clusters without an order of some numbers go out, or stand in both levels.
+fn settle_unordered<const W: usize>(slots: &mut Slab<Stored<W>>, numbers: &[usize], stays: Level)
+    ensures { Done (λ n. n) (λ n. settled_unordered stays) numbers.now slots.old.slots slots.new.slots }
+{
+    for at in 0..numbers.len() {
+        settle_one(slots, numbers[at], stays);
+    }
+}
+
+// The cluster of a number, if it has one without an order, goes out, or stands in both levels.
+fn settle_one<const W: usize>(slots: &mut Slab<Stored<W>>, number: usize, stays: Level)
+    ensures { Writes slots.old.slots slots.new.slots number (settled_unordered stays (get slots.old number)) }
+{
+    if !is_unordered(slots, number) {
+        return;
+    }
+    if let Some(stored) = slots.get(number) {
+        let to = tag_left(stays, stored.tag());
+        move_slot(slots, number, to);
+    }
+}
+
+// The levels of what had a tag, where a staging is closed and a level stays.
+fn tag_left(stays: Level, tag: Tag) -> Option<Tag>
+    ensures { result ≡ settled_to stays tag }
+{
+    match (stays, tag) {
+        (_, Tag::Both) | (Level::Main, Tag::MainOnly) | (Level::Top, Tag::TopOnly) => Some(Tag::Both),
+        (Level::Main, Tag::TopOnly) | (Level::Top, Tag::MainOnly) => None,
     }
 }

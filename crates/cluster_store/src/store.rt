@@ -1,13 +1,14 @@
-ghost use Rattle.std.specs.Prelude.{◌≡◌, ◌≢◌, ◌↔◌, ◌≤◌, ◌*◌, ◌++◌, ℕ, false, true, None, Some, [], ◌∷◌, map, Contains, IsSome, IfOk, IfSome, OnOk, OnErr, MatchOption, option_to_list};
+ghost use Rattle.std.specs.Prelude.{◌≡◌, ◌≢◌, ◌↔◌, ◌≤◌, ◌*◌, ◌++◌, ℕ, false, true, None, Some, [], ◌∷◌, map, Contains, IsSome, IsTrue, IfOk, IfSome, OnOk, OnErr, MatchOption, option_to_list};
 ghost use Rattle.std.specs.FinMap as finmap;
 ghost use Rattle.graphs.specs.Merges.{Precedes};
-ghost use Rattle.cluster.specs.Clusters.{IsCluster};
+ghost use Rattle.record.specs.Records.{IsRecord};
 ghost use Rattle.cluster_store.specs.Stores.{Stored as Kept, IsStore, AreWhole, IsLeast, IsOrdered, shown_in, shown_only};
 ghost use Rattle.chunk_index.specs.declared.entry.Tag.TheVariants.{Both};
 ghost use Rattle.cluster_store.specs.Held.{held_in};
 ghost use Rattle.cluster_store.specs.Rates.{IsTail};
 ghost use Rattle.cluster_store.specs.Changes.{AreHeld, EndsAt, ExchangesEach, lowest_in, most_least, settled};
 ghost use Rattle.cluster_store.specs.Tops.{MayLeave, TopChanges};
+ghost use Rattle.cluster_store.specs.Unordered.{LacksOrder};
 
 use crate::clusters::{cluster_of, entry_at, exchange_all, tag_of};
 use crate::held::HeldWalk;
@@ -17,10 +18,12 @@ use crate::rebuilding::rebuild;
 use crate::settling::settle;
 use crate::stored::{Exchange, Made, Stored};
 use crate::tail::first_of_tail;
+use crate::unordered::{lacks_order, list_exchanged, list_made, make_room};
 use crate::walk::PartWalk;
 use chunk_index::{ChunkIndex, Tag};
-use component::Component;
+use record::Record;
 use graphs::Level;
+use indexmap::IndexSet;
 use outside::NoMemory;
 use slab::Slab;
 use std::alloc::Global;
@@ -32,6 +35,8 @@ pub struct ClusterStore<const W: usize> {
     alloc: Global,
     slots: Slab<Stored<W>>,
     index: ChunkIndex,
+    // the numbers of the clusters without an order, and perhaps some more
+    over: IndexSet<usize>,
     least: u64,
 }
 
@@ -39,7 +44,8 @@ pub struct ClusterStore<const W: usize> {
 impl<const W: usize> Model for ClusterStore<W> {
     ghost use Rattle.std.specs.Prelude.{◌*◌, map};
     ghost use Rattle.cluster_store.specs.Stores.{Store, store_code};
-    ghost use Rattle.cluster_store.specs.Kept.{shelved, place_of, IsKept};
+    ghost use Rattle.cluster_store.specs.Kept.{shelved, place_of};
+    ghost use Rattle.cluster_store.specs.Unordered.{IsStored};
 
     ghost Value = { Store };
 
@@ -47,7 +53,7 @@ impl<const W: usize> Model for ClusterStore<W> {
 
     ghost view = { λ a. record { clusters = shelved a.slots.slots; order = map place_of a.index; least = a.least } };
 
-    ghost invariant = { λ a. IsKept W a.slots.slots a.index a.least };
+    ghost invariant = { λ a. IsStored W a.slots.slots a.index a.over a.least };
 }
 
 impl<const W: usize> ClusterStore<W> {
@@ -61,15 +67,16 @@ impl<const W: usize> ClusterStore<W> {
             alloc,
             slots: Slab::new(alloc),
             index: ChunkIndex::new(alloc),
+            over: IndexSet::new(alloc),
             least: u64::MAX,
         }
     }
 
     /// The cluster of a number, or `None` where the number has none.
-    pub fn get(&self, number: usize) -> Option<&Component<W>>
+    pub fn get(&self, number: usize) -> Option<&Record<W>>
         ensures cluster { MatchOption result (finmap.get self.now.clusters number ≡ None)
             (λ c. (s : Kept) × (finmap.get self.now.clusters number ≡ Some s) × (c.now ≡ s.cluster)) }
-        ensures whole { IfSome result (λ c. IsCluster (64 * W) c.now) }
+        ensures whole { IfSome result (λ c. IsRecord (64 * W) c.now) }
     {
         cluster_of(&self.slots, number)
     }
@@ -90,6 +97,14 @@ impl<const W: usize> ClusterStore<W> {
         ensures whole { AreWhole (64 * W) self.now.clusters }
     {
         self.least
+    }
+
+    /// Whether a cluster without an order stands in a level. Takes no memory. It costs nothing where every cluster has one, and else
+    /// some of those that have none.
+    pub fn lacks_order(&self, level: Level) -> bool
+        ensures { IsTrue result ↔ LacksOrder level self.now.clusters }
+    {
+        lacks_order(&self.slots, &self.over, level)
     }
 
     /// The parts of a level, by falling rate, among equal rates by the numbers of the clusters, and of a cluster in their
@@ -165,8 +180,8 @@ impl<const W: usize> ClusterStore<W> {
         &mut self,
         staged: bool,
         outs: &[usize],
-        rest: Vec<Component<W>>,
-        last: Option<Component<W>>,
+        rest: Vec<Record<W>>,
+        last: Option<Record<W>>,
     ) -> Result<Made, NoMemory>
         requires { MayLeave staged outs.now self.old.clusters }
         ensures rebuilt { IfOk result (λ made. TopChanges staged outs.now made.rest.items made.last rest.entry.items last.entry
@@ -179,6 +194,7 @@ impl<const W: usize> ClusterStore<W> {
     {
         let least = lowest_of_all(self.least, rest.as_slice());
         let least = lowest_of_last(least, &last);
+        make_room(&mut self.over, rest.as_slice(), &last)?;
         let made = rebuild(
             self.alloc,
             &mut self.slots,
@@ -189,6 +205,7 @@ impl<const W: usize> ClusterStore<W> {
             last,
         )?;
         self.least = least;
+        list_made(&self.slots, &mut self.over, outs, &made);
         self.begin_anew();
         Ok(made)
     }
@@ -207,6 +224,7 @@ impl<const W: usize> ClusterStore<W> {
         ensures store { IsStore (64 * W) self.new }
     {
         let least = lowest_exchanged(self.least, exchanged.as_slice());
+        list_exchanged(&mut self.over, exchanged.as_slice())?;
         exchange_all(&mut self.slots, &mut self.index, exchanged)?;
         self.least = least;
         self.begin_anew();
@@ -227,13 +245,13 @@ impl<const W: usize> ClusterStore<W> {
     /// Where a staging is closed and a level stays: the clusters of that level stand in both from now on, and the others go out. Takes
     /// no memory.
     ///
-    /// It costs the clusters that stand in one level alone, and their parts.
+    /// It costs the clusters that stand in one level alone, and their parts, and all clusters without an order.
     pub fn settle(&mut self, stays: Level)
         ensures settled { (number : ℕ) → finmap.get self.new.clusters number ≡ settled stays (finmap.get self.old.clusters number) }
         ensures least { EndsAt self.new.clusters self.old.least self.new.least }
         ensures store { IsStore (64 * W) self.new }
     {
-        settle(&mut self.slots, &mut self.index, stays);
+        settle(&mut self.slots, &mut self.index, &mut self.over, stays);
         self.begin_anew();
     }
 }

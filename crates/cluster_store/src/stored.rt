@@ -3,14 +3,14 @@ ghost use Rattle.std.specs.Prelude.{◌≡◌};
 use crate::walk::Parts;
 use chunk_index::Tag;
 use cluster::PartRef;
-use component::Component;
+use record::Record;
 use std::marker::Model;
 use std::mem;
 
 /// A cluster and the levels that it stands in.
 #[derive(Drop)]
 pub struct Stored<const W: usize> {
-    cluster: Component<W>,
+    cluster: Record<W>,
     tag: Tag,
 }
 
@@ -26,14 +26,14 @@ impl<const W: usize> Model for Stored<W> {
 
 impl<const W: usize> Stored<W> {
     /// A cluster that is to stand in the levels of a tag.
-    pub(crate) fn new(cluster: Component<W>, tag: Tag) -> Self
+    pub(crate) fn new(cluster: Record<W>, tag: Tag) -> Self
         ensures { result ≡ record { cluster = cluster.entry; tag = tag } }
     {
         Stored { cluster, tag }
     }
 
     /// The cluster.
-    pub fn cluster(&self) -> &Component<W>
+    pub fn cluster(&self) -> &Record<W>
         ensures { result.now ≡ self.now.cluster }
     {
         &self.cluster
@@ -54,7 +54,7 @@ impl<const W: usize> Stored<W> {
     }
 
     /// Puts another cluster in its place, and gives the one that was there.
-    pub(crate) fn replace(&mut self, cluster: Component<W>) -> Component<W>
+    pub(crate) fn replace(&mut self, cluster: Record<W>) -> Record<W>
         ensures new { self.new ≡ record { cluster = cluster.entry; tag = self.old.tag } }
         ensures old { result ≡ self.old.cluster }
     {
@@ -75,7 +75,7 @@ pub struct Made {
 #[derive(Drop)]
 pub struct Exchange<const W: usize> {
     number: usize,
-    cluster: Component<W>,
+    cluster: Record<W>,
 }
 
 impl<const W: usize> Model for Exchange<W> {
@@ -90,7 +90,7 @@ impl<const W: usize> Model for Exchange<W> {
 
 impl<const W: usize> Exchange<W> {
     /// The cluster that is to stand under a number.
-    pub fn new(number: usize, cluster: Component<W>) -> Self
+    pub fn new(number: usize, cluster: Record<W>) -> Self
         ensures { result ≡ record { number = number; cluster = cluster.entry } }
     {
         Exchange { number, cluster }
@@ -104,14 +104,14 @@ impl<const W: usize> Exchange<W> {
     }
 
     /// The cluster.
-    pub fn cluster(&self) -> &Component<W>
+    pub fn cluster(&self) -> &Record<W>
         ensures { result.now ≡ self.now.cluster }
     {
         &self.cluster
     }
 
     /// Both.
-    pub(crate) fn into_parts(self) -> (usize, Component<W>)
+    pub(crate) fn into_parts(self) -> (usize, Record<W>)
         ensures number { result.0 ≡ self.entry.number }
         ensures cluster { result.1 ≡ self.entry.cluster }
     {

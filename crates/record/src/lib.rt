@@ -13,6 +13,7 @@
 mod joining;
 mod kept;
 mod over;
+mod parts;
 mod record;
 
 pub use record::Record;

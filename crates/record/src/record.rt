@@ -237,8 +237,8 @@ impl<const W: usize> Record<W> {
         })
     }
 
-    // Of a component with its order.
-    pub(crate) fn within(component: Component<W>) -> Self
+    /// The record of a component with its order.
+    pub fn within(component: Component<W>) -> Self
         ensures { result ≡ component.entry }
     {
         let _names = component.names();

@@ -1,6 +1,7 @@
 use Rattle.std.proofs.Common.{◌*◌, ap, ◌∙◌, subst}
 use Rattle.graphs.specs.Closures.{rate_of}
-use Rattle.cluster.specs.Clusters.{Cluster, IsCluster}
+use Rattle.cluster.specs.Clusters.{Cluster}
+use Rattle.record.specs.Records.{IsRecord}
 use Rattle.cluster_store.specs.Stores.{Exchange}
 use Rattle.cluster_store.specs.Changes.{lowest}
 use Rattle.cluster_store.proofs.Counted.{counted-none, counted-more, counted-least, counted-whole}
@@ -16,7 +17,7 @@ loop-at-preserved g c =
     let most = λ (d : Cluster). lowest (λ id. (rate_of d.graph id).size) d.names c.loop-at.lowest in
     counted-more (64 * g.row.W) (λ (s : Exchange). s.cluster) c.args.exchanged.now c.args.least c.loop-at.at c.loop-at.lowest counted.result
     c.index-exchanged-at.result c.loop-at-test.true c.index-exchanged-at.is (counted.ensures.least ∙ ap most c.cluster.ensures)
-    (subst (IsCluster (64 * g.row.W)) c.cluster.ensures counted.ensures.whole) c.loop-at.invariant
+    (subst (IsRecord (64 * g.row.W)) c.cluster.ensures counted.ensures.whole) c.loop-at.invariant
 
 pub returns-clause-least : goal.returns-clause-least
 returns-clause-least g c =

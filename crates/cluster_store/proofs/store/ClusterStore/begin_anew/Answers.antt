@@ -18,9 +18,9 @@ pub returns-then-is_empty-clause-store : goal.returns-then-is_empty-clause-store
 returns-then-is_empty-clause-store g c =
     kept_store g.row.W c.self.inside.slots.slots c.self.inside.index 18446744073709551615
     (kept_anew g.row.W c.self.inside.slots.slots c.self.inside.index c.self.inside.least 18446744073709551615
-    (sym c.is_empty.ensures ∙ c.if-is_empty.true) c.self.invariant)
+    (sym c.is_empty.ensures ∙ c.if-is_empty.true) c.self.invariant.kept)
 
 pub returns-else-is_empty-clause-store : goal.returns-else-is_empty-clause-store
 returns-else-is_empty-clause-store g c =
     subst (IsStore (64 * g.row.W)) c.self.view_is
-    (kept_store g.row.W c.self.inside.slots.slots c.self.inside.index c.self.inside.least c.self.invariant)
+    (kept_store g.row.W c.self.inside.slots.slots c.self.inside.index c.self.inside.least c.self.invariant.kept)

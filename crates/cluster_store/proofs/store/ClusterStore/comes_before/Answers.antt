@@ -8,20 +8,20 @@ use Rattle.cluster_store.proofs.store.ClusterStore.comes_before.Goals as goal
 
 pub entry_at-requires : goal.entry_at-requires
 entry_at-requires g c =
-    let low = place_low c.self.inside.slots.slots c.self.inside.index c.self.invariant.shown c.args.a c.args.b c.args.a
+    let low = place_low c.self.inside.slots.slots c.self.inside.index c.self.invariant.kept.shown c.args.a c.args.b c.args.a
     (subst (λ (s : Store). Contains s.order c.args.a) (sym c.self.view_is) c.requires.a) in
-    (stored_fits g.row.W c.self.invariant.narrow, low)
+    (stored_fits g.row.W c.self.invariant.kept.narrow, low)
 
 pub entry_at-requires-2 : goal.entry_at-requires-2
 entry_at-requires-2 g c =
-    let low = place_low c.self.inside.slots.slots c.self.inside.index c.self.invariant.shown c.args.a c.args.b c.args.b
+    let low = place_low c.self.inside.slots.slots c.self.inside.index c.self.invariant.kept.shown c.args.a c.args.b c.args.b
     (subst (λ (s : Store). Contains s.order c.args.b) (sym c.self.view_is) c.requires.b) in
-    (stored_fits g.row.W c.self.invariant.narrow, low)
+    (stored_fits g.row.W c.self.invariant.kept.narrow, low)
 
 pub returns-clause-before : goal.returns-clause-before
 returns-clause-before g c =
     subst (λ (s : Store). (c.is_before.result ≡ true) ↔ Precedes s.order c.args.a c.args.b) c.self.view_is
-    (told_before c.self.inside.slots.slots c.self.inside.index c.self.invariant.shown c.args.a c.args.b _ _ c.entry_at.ensures c.entry_at-2.ensures
+    (told_before c.self.inside.slots.slots c.self.inside.index c.self.invariant.kept.shown c.args.a c.args.b _ _ c.entry_at.ensures c.entry_at-2.ensures
     (subst (λ (s : Store). Contains s.order c.args.a) (sym c.self.view_is) c.requires.a)
     (subst (λ (s : Store). Contains s.order c.args.b) (sym c.self.view_is) c.requires.b) c.is_before.result c.is_before.ensures)
 

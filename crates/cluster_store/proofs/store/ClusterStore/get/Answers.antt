@@ -6,7 +6,7 @@ use Rattle.cluster_store.proofs.Sizes.{cluster_fits, stored_fits}
 use Rattle.cluster_store.proofs.store.ClusterStore.get.Goals as goal
 
 pub cluster_of-requires : goal.cluster_of-requires
-cluster_of-requires g c = (stored_fits g.row.W c.self.invariant.narrow, cluster_fits g.row.W c.self.invariant.narrow)
+cluster_of-requires g c = (stored_fits g.row.W c.self.invariant.kept.narrow, cluster_fits g.row.W c.self.invariant.kept.narrow)
 
 pub returns-clause-cluster : goal.returns-clause-cluster
 returns-clause-cluster g c =
@@ -15,4 +15,4 @@ returns-clause-cluster g c =
 
 pub returns-clause-whole : goal.returns-clause-whole
 returns-clause-whole g c =
-    whole_by c.cluster_of.result (λ x. x.now) (64 * g.row.W) c.self.inside.slots.slots c.args.number c.self.invariant.whole c.cluster_of.ensures
+    whole_by c.cluster_of.result (λ x. x.now) (64 * g.row.W) c.self.inside.slots.slots c.args.number c.self.invariant.kept.whole c.cluster_of.ensures

@@ -14,7 +14,7 @@ pub returns-in-None-clause-tail : goal.returns-in-None-clause-tail
 returns-in-None-clause-tail g c =
     let index = c.self.inside.index in
     let at_end = c.first_of_tail.ensures in
-    let told = rates_walk c.self.inside.slots.slots index c.self.invariant.shown (same_tag Both) c.self.inside.least
+    let told = rates_walk c.self.inside.slots.slots index c.self.invariant.kept.shown (same_tag Both) c.self.inside.least
     ∙ ap (λ (s : Store). map (λ (t : Shown). t.part.rate) (shown_only Both s)) c.self.view_is in
     rates_are_tail c.args.size (entries_tagged Both index) (map (λ (t : Shown). t.part.rate) (shown_only Both c.args.self.now)) c.none.result
     c.first_of_tail.result told at_end
@@ -24,7 +24,7 @@ pub returns-in-Some-clause-tail : goal.returns-in-Some-clause-tail
 returns-in-Some-clause-tail g c =
     let index = c.self.inside.index in
     let at_end = subst (λ (o : Option Entry). IsFirstOfTail c.args.size (entries_tagged Both index) o) c.in-Some.is c.first_of_tail.ensures in
-    let told = rates_walk c.self.inside.slots.slots index c.self.invariant.shown (same_tag Both) c.self.inside.least
+    let told = rates_walk c.self.inside.slots.slots index c.self.invariant.kept.shown (same_tag Both) c.self.inside.least
     ∙ ap (λ (s : Store). map (λ (t : Shown). t.part.rate) (shown_only Both s)) c.self.view_is in
     rates_are_tail c.args.size (entries_tagged Both index) (map (λ (t : Shown). t.part.rate) (shown_only Both c.args.self.now)) c.new.result
     (Some c.in-Some.first) told at_end

@@ -7,9 +7,9 @@ use Rattle.cluster_store.proofs.store.ClusterStore.least.Goals as goal
 pub returns-clause-least : goal.returns-clause-least
 returns-clause-least g c =
     subst (λ (s : Store). IsLeast s.clusters c.self.inside.least) c.self.view_is
-    (shelved_least g.row.W c.self.inside.slots.slots c.self.inside.index c.self.inside.least c.self.invariant)
+    (shelved_least g.row.W c.self.inside.slots.slots c.self.inside.index c.self.inside.least c.self.invariant.kept)
 
 pub returns-clause-whole : goal.returns-clause-whole
 returns-clause-whole g c =
     subst (λ (s : Store). AreWhole (64 * g.row.W) s.clusters) c.self.view_is
-    (shelved_whole g.row.W c.self.inside.slots.slots c.self.inside.index c.self.inside.least c.self.invariant)
+    (shelved_whole g.row.W c.self.inside.slots.slots c.self.inside.index c.self.inside.least c.self.invariant.kept)

@@ -9,5 +9,5 @@ use Rattle.cluster_store.proofs.store.ClusterStore.rates.Goals as goal
 pub returns : goal.returns
 returns g c =
     c.new.ensures ∙ ap (map entry_rate) c.walk.ensures.entries
-    ∙ rates_walk c.self.inside.slots.slots c.self.inside.index c.self.invariant.shown (is_in c.args.level) c.self.inside.least
+    ∙ rates_walk c.self.inside.slots.slots c.self.inside.index c.self.invariant.kept.shown (is_in c.args.level) c.self.inside.least
     ∙ ap (λ (s : Store). map (λ (t : Shown). t.part.rate) (shown_in c.args.level s)) c.self.view_is

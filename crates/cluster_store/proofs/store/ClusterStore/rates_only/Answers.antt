@@ -9,5 +9,5 @@ use Rattle.cluster_store.proofs.store.ClusterStore.rates_only.Goals as goal
 pub returns : goal.returns
 returns g c =
     c.new.ensures ∙ ap (map entry_rate) c.walk_only.ensures.entries
-    ∙ rates_walk c.self.inside.slots.slots c.self.inside.index c.self.invariant.shown (same_tag c.args.tag) c.self.inside.least
+    ∙ rates_walk c.self.inside.slots.slots c.self.inside.index c.self.invariant.kept.shown (same_tag c.args.tag) c.self.inside.least
     ∙ ap (λ (s : Store). map (λ (t : Shown). t.part.rate) (shown_only c.args.tag s)) c.self.view_is

@@ -7,6 +7,7 @@ use Rattle.cluster.specs.Clusters.{Cluster}
 use Rattle.cluster_store.specs.Stores.{Store, Numbered}
 use Rattle.cluster_store.specs.Changes.{EndsAt, lowest_in}
 use Rattle.cluster_store.specs.Kept.{IsKept}
+use Rattle.cluster_store.specs.Unordered.{IsUnordered}
 use Rattle.cluster_store.specs.Tops.{MayLeave, TopChanges}
 use Rattle.cluster_store.proofs.Changed.{kept_same, store_same}
 use Rattle.cluster_store.proofs.Kept.{kept_store}
@@ -15,20 +16,20 @@ use Rattle.cluster_store.proofs.Sizes.{cluster_fits, stored_fits}
 use Rattle.cluster_store.proofs.store.ClusterStore.rebuild.Goals as goal
 
 pub lowest_of_all-least-requires : goal.lowest_of_all-least-requires
-lowest_of_all-least-requires g c = cluster_fits g.row.W c.self.invariant.narrow
+lowest_of_all-least-requires g c = cluster_fits g.row.W c.self.invariant.kept.narrow
 
 pub lowest_of_last-least-requires : goal.lowest_of_last-least-requires
-lowest_of_last-least-requires g c = cluster_fits g.row.W c.self.invariant.narrow
+lowest_of_last-least-requires g c = cluster_fits g.row.W c.self.invariant.kept.narrow
 
 pub rebuild-requires : goal.rebuild-requires
 rebuild-requires g c = (
-  stored_fits g.row.W c.self.invariant.narrow,
+  stored_fits g.row.W c.self.invariant.kept.narrow,
   (
-    cluster_fits g.row.W c.self.invariant.narrow,
+    cluster_fits g.row.W c.self.invariant.kept.narrow,
     (
-      c.self.invariant.narrow,
+      c.self.invariant.kept.narrow,
       (
-        c.self.invariant.shown,
+        c.self.invariant.kept.shown,
         subst (MayLeave c.args.staged c.args.outs.now) (ap (λ (s : Store). s.clusters) (sym c.self.view_is)) c.requires,
       ),
     ),
@@ -36,34 +37,49 @@ rebuild-requires g c = (
 )
 
 pub invariant_of-self : goal.invariant_of-self
-invariant_of-self g c =
-    kept_same g.row.W c.self.inside.slots.slots c.rebuild.new.slots.slots c.self.inside.index c.rebuild.new.index c.self.inside.least c.self.invariant
-    c.in_err-made.ensures.err c.in_err-made.ensures.shown
+invariant_of-self g c = record {
+  kept = c.self.invariant.kept;
+  unordered = λ n is. c.in_err-make_room.ensures.same n ∙ c.self.invariant.unordered n is;
+}
+
+pub invariant_of-self-2 : goal.invariant_of-self-2
+invariant_of-self-2 g c = record {
+  kept = kept_same g.row.W c.self.inside.slots.slots c.rebuild.new.slots.slots c.self.inside.index c.rebuild.new.index c.self.inside.least
+      c.self.invariant.kept c.in_err-made.ensures.err c.in_err-made.ensures.shown;
+  unordered = λ n is.
+      c.in_ok-make_room.ensures.same n ∙ c.self.invariant.unordered n (subst IsUnordered (sym (c.in_err-made.ensures.err n)) is);
+}
+
+pub list_made-requires : goal.list_made-requires
+list_made-requires g c = ?
 
 pub returns-in_err-made-clause-err : goal.returns-in_err-made-clause-err
 returns-in_err-made-clause-err g c =
     on_err c.from_residual.result (store_same c.self.inside.slots.slots c.rebuild.new.slots.slots c.self.inside.index c.rebuild.new.index c.self.inside.least
-    c.self.invariant.shown c.in_err-made.ensures.shown c.in_err-made.ensures.err ∙ c.self.view_is)
+    c.self.invariant.kept.shown c.in_err-made.ensures.shown c.in_err-made.ensures.err ∙ c.self.view_is)
 
 pub returns-in_err-made-clause-store : goal.returns-in_err-made-clause-store
-returns-in_err-made-clause-store g c = kept_store g.row.W c.rebuild.new.slots.slots c.rebuild.new.index c.self.inside.least (invariant_of-self g c)
+returns-in_err-made-clause-store g c = kept_store g.row.W c.rebuild.new.slots.slots c.rebuild.new.index c.self.inside.least (invariant_of-self-2 g c).kept
 
-pub invariant_of-self-2 : goal.invariant_of-self-2
-invariant_of-self-2 g c =
+pub invariant_of-self-3 : goal.invariant_of-self-3
+invariant_of-self-3 g c =
     let slots = c.self.inside.slots.slots in
     let news = c.args.rest.items ++ option_to_list c.args.last in
     let made = c.in_ok-made.made in
     let least : c.lowest_of_last-least.result ≡ lowest_in news c.self.inside.least =
     lowest_told c.lowest_of_all-least.result c.lowest_of_last-least.result c.self.inside.least c.as_slice.result.now c.args.rest.items c.args.last
     c.lowest_of_all-least.ensures.least c.as_slice.ensures.value c.lowest_of_last-least.ensures.least in
-    subst (IsKept g.row.W c.rebuild.new.slots.slots c.rebuild.new.index) (sym least)
-    (kept_came g.row.W news slots c.rebuild.new.slots.slots c.self.inside.index c.rebuild.new.index c.self.inside.least c.self.invariant
+    record {
+    kept = subst (IsKept g.row.W c.rebuild.new.slots.slots c.rebuild.new.index) (sym least)
+    (kept_came g.row.W news slots c.rebuild.new.slots.slots c.self.inside.index c.rebuild.new.index c.self.inside.least c.self.invariant.kept
     c.in_ok-made.ensures.shown
     (joined_whole (64 * g.row.W) c.args.rest.items c.args.last
     (λ d here. c.lowest_of_all-least.ensures.whole d (subst (λ (cs : List Cluster). Contains cs d) (sym c.as_slice.ensures.value) here))
     c.lowest_of_last-least.ensures.whole)
     (slots_from c.args.staged c.args.outs.now (made.rest.items ++ option_to_list made.last) news slots c.rebuild.new.slots.slots
-    c.in_ok-made.ensures.rebuilt.exchanged))
+    c.in_ok-made.ensures.rebuilt.exchanged));
+    unordered = c.list_made.ensures;
+    }
 
 pub returns-clause-rebuilt : goal.returns-clause-rebuilt
 returns-clause-rebuilt g c =

@@ -4,21 +4,20 @@ use Rattle.std.specs.FinMap as finmap
 use Rattle.cluster_store.specs.Stores.{Store, Numbered}
 use Rattle.cluster_store.specs.Changes.{settled}
 use Rattle.cluster_store.proofs.Kept.{shelved_at}
-use Rattle.cluster_store.proofs.Settled.{have_parts, kept_settled}
+use Rattle.cluster_store.proofs.Settled.{kept_settled}
 use Rattle.cluster_store.proofs.Shelves.{get_shelved}
 use Rattle.cluster_store.proofs.Sizes.{stored_fits}
 use Rattle.cluster_store.proofs.store.ClusterStore.settle.Goals as goal
 
 pub settle-requires : goal.settle-requires
-settle-requires g c = (
-  stored_fits g.row.W c.self.invariant.narrow,
-  (c.self.invariant.shown, have_parts g.row.W c.self.inside.slots.slots c.self.inside.index c.self.inside.least c.self.invariant),
-)
+settle-requires g c = (stored_fits g.row.W c.self.invariant.kept.narrow, (c.self.invariant.kept.shown, c.self.invariant.unordered))
 
 pub invariant_of-self : goal.invariant_of-self
-invariant_of-self g c =
-    kept_settled g.row.W c.args.stays c.self.inside.slots.slots c.settle.new.slots.slots c.self.inside.index c.settle.new.index c.self.inside.least
-    c.self.invariant c.settle.ensures.settled c.settle.ensures.shown
+invariant_of-self g c = record {
+  kept = kept_settled g.row.W c.args.stays c.self.inside.slots.slots c.settle.new.slots.slots c.self.inside.index c.settle.new.index c.self.inside.least
+      c.self.invariant.kept c.settle.ensures.settled c.settle.ensures.shown;
+  unordered = c.settle.ensures.unordered;
+}
 
 pub returns-clause-settled : goal.returns-clause-settled
 returns-clause-settled g c = λ number.

@@ -6,7 +6,7 @@ use Rattle.cluster_store.proofs.Sizes.{stored_fits}
 use Rattle.cluster_store.proofs.store.ClusterStore.tag.Goals as goal
 
 pub tag_of-requires : goal.tag_of-requires
-tag_of-requires g c = stored_fits g.row.W c.self.invariant.narrow
+tag_of-requires g c = stored_fits g.row.W c.self.invariant.kept.narrow
 
 pub returns : goal.returns
 returns g c =
