@@ -30,6 +30,7 @@ mod Making
 mod Mined
 mod Most
 mod Naming
+mod Ordered
 mod Pairing
 mod Pairs
 mod Partway

@@ -1,10 +1,10 @@
 -- The parts of a level and the places that they stand at: each part has one, and of two the one stands first that does so by its place.
-use Rattle.std.proofs.Common.{◌≡◌, ℕ, ◌<◌, Bool, true, List, length, map, Contains, Option, Some, None, refl, sym, ap, ◌∙◌, subst, subst₂, true≢false}
+use Rattle.std.proofs.Common.{◌≡◌, ℕ, ◌<◌, Bool, true, List, [], length, map, Contains, Option, Some, None, refl, sym, ap, ◌∙◌, subst, subst₂, true≢false}
 use Rattle.std.specs.List.{slice_index_or}
 use Rattle.std.specs.FinMap as finmap
 use Rattle.std.proofs.lemmas.Option.{slice_get-get_or, slice_get_within, get_or_from_slice_get}
 use Rattle.std.proofs.lemmas.Simd.{map-map}
-use Rattle.lists.proofs.Entries.{filter-Contains, map-Contains}
+use Rattle.lists.proofs.Entries.{filter-Contains, map-Contains, none_in_empty}
 use Rattle.graphs.specs.declared.names.Level.{Level}
 use Rattle.graphs.specs.Certificates.{Part}
 use Rattle.graphs.specs.Merges.{Precedes}
@@ -12,6 +12,7 @@ use Rattle.lists.proofs.Flats.{flat_has}
 use Rattle.chunk_index.specs.Items.{is_in}
 use Rattle.cluster.specs.Clusters.{Cluster, IsCluster}
 use Rattle.cluster.proofs.Placed.{in_names}
+use Rattle.record.specs.Records.{IsRecord}
 use Rattle.cluster_store.specs.Laws.{Stands, StandsAt}
 use Rattle.cluster_store.specs.Stores.{Stored, Store, Shown, IsStore, no_part, parts_in, part_at, parts_of_level, passes, places_by, places_in, shown_at, shown_in}
 use Rattle.cluster_store.proofs.Before.{by_places, parts_stand_in_order}
@@ -62,8 +63,8 @@ module _ (most : ℕ) (level : Level) (store : Store) (is : IsStore most store) 
   pub shown : (place : ℕ × ℕ) (part : Part) → StandsAt level store.clusters place part → Contains (parts_of_level level store) part
   shown = (parts_stand_in_order most level store is).shown
 
-  pub whole : (n : ℕ) (c : Cluster) → Stands level store.clusters n c → IsCluster most c
-  whole n c stands = subst (IsCluster most) stands.2 (is.whole n stands.0 stands.1)
+  pub whole : (n : ℕ) (c : Cluster) → Stands level store.clusters n c → (c.parts ≡ [] → ⊥) → IsCluster most c
+  whole n c stands some = (subst (IsRecord most) stands.2 (is.whole n stands.0 stands.1)).ordered some
 
   -- a part's names are its cluster's
   pub in_cluster : (place : ℕ × ℕ) (part : Part) (stands : StandsAt level store.clusters place part) (id : ℕ) → Contains part.ids id
@@ -72,7 +73,8 @@ module _ (most : ℕ) (level : Level) (store : Store) (is : IsStore most store) 
       let c = stands.0 in
       let listed : Contains c.parts part =
       (place.1, slice_get_within c.parts place.1 part stands.2, get_or_from_slice_get c.parts place.1 part part stands.2) in
-      in_names most c (whole place.0 c stands.1) id (flat_has (λ (p : Part). p.ids) c.parts part id listed here)
+      let some : c.parts ≡ [] → ⊥ = λ none. none_in_empty part (subst (λ (ps : List Part). Contains ps part) none listed) in
+      in_names most c (whole place.0 c stands.1 some) id (flat_has (λ (p : Part). p.ids) c.parts part id listed here)
 
   part_is : (place : ℕ × ℕ) (part : Part) → StandsAt level store.clusters place part → part_at store.clusters place ≡ part
   part_is place part stands =

@@ -22,6 +22,7 @@ use cluster_store::Exchange;
 use component::Work;
 use graph_model::{Level, Limits, Refusal, TxId};
 use outside::NoMemory;
+use record::Record;
 use step_count::{Ledger, Steps};
 
 impl<const W: usize> Shelves<W> {
@@ -106,7 +107,7 @@ impl<const W: usize> Shelves<W> {
         let rest = Vec::new(self.alloc);
         Ok(News {
             rest,
-            last: Some(changed),
+            last: Some(Record::within(changed)),
             kept,
         })
     }
@@ -134,7 +135,7 @@ impl<const W: usize> Shelves<W> {
         let rest = Vec::new(self.alloc);
         Ok(News {
             rest,
-            last: Some(joined),
+            last: Some(Record::within(joined)),
             kept,
         })
     }
@@ -233,6 +234,6 @@ impl<const W: usize> Shelves<W> {
             → GrowsWithin (most_steps (length c.names)) steps.old steps.new }
     {
         let changed = self.at(number).with_fee(self.alloc, id, fee, work, steps)?;
-        Ok(Exchange::new(number, changed))
+        Ok(Exchange::new(number, Record::within(changed)))
     }
 }

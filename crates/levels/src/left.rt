@@ -15,6 +15,7 @@ use crate::shelves::Shelves;
 use component::{Component, Work};
 use graph_model::{Level, TxId};
 use outside::NoMemory;
+use record::Record;
 use std::alloc::Global;
 use step_count::{Ledger, Steps};
 
@@ -22,16 +23,16 @@ use step_count::{Ledger, Steps};
 #[derive(Drop)]
 pub struct Left<const W: usize> {
     pub outs: Vec<usize>,
-    pub rest: Vec<Component<W>>,
-    pub last: Option<Component<W>>,
+    pub rest: Vec<Record<W>>,
+    pub last: Option<Record<W>>,
 }
 
 /// What comes in where clusters go out: the last of it takes the number of the first of those, and has as many of its names as `kept`, from
 /// the first.
 #[derive(Drop)]
 pub struct News<const W: usize> {
-    pub rest: Vec<Component<W>>,
-    pub last: Option<Component<W>>,
+    pub rest: Vec<Record<W>>,
+    pub last: Option<Record<W>>,
     pub kept: usize,
 }
 
@@ -121,14 +122,15 @@ impl<const W: usize> Shelves<W> {
         let pieces = self
             .at(number)
             .without(self.alloc, names.as_slice(), work, steps)?;
-        left.take(number, pieces.into_vec())
+        let records = records_of(self.alloc, pieces.into_vec())?;
+        left.take(number, records)
     }
 }
 
 impl<const W: usize> Left<W> {
     // Takes what is left of one cluster more. Of the first cluster one with the most names is kept apart, so that most names keep
     // their number.
-    fn take(&mut self, number: usize, mut pieces: Vec<Component<W>>) -> Result<(), NoMemory>
+    fn take(&mut self, number: usize, mut pieces: Vec<Record<W>>) -> Result<(), NoMemory>
         requires { W ≤ 2 }
         ensures { OnOk result (Takes number pieces.entry.items self.old.outs.items self.old.rest.items self.old.last
             self.new.outs.items self.new.rest.items self.new.last) }
@@ -143,6 +145,21 @@ impl<const W: usize> Left<W> {
         self.rest = pieces;
         Ok(())
     }
+}
+
+// The records of components, in the same order.
+fn records_of<const W: usize>(
+    alloc: Global,
+    components: Vec<Component<W>>,
+) -> Result<Vec<Record<W>>, NoMemory>
+    requires { W ≤ 2 }
+    ensures { IfOk result (λ records. records.items ≡ components.entry.items) }
+{
+    let mut records = Vec::with_capacity(alloc, components.len())?;
+    for component in components {
+        records.push_reserved(Record::within(component));
+    }
+    Ok(records)
 }
 
 // How many entries at the front have the number of the first.
@@ -174,7 +191,7 @@ fn names_of(alloc: Global, run: &[(usize, TxId)]) -> Result<Vec<TxId>, NoMemory>
 }
 
 // Takes one of the most names out of some clusters.
-fn take_largest<const W: usize>(clusters: &mut Vec<Component<W>>) -> Option<Component<W>>
+fn take_largest<const W: usize>(clusters: &mut Vec<Record<W>>) -> Option<Record<W>>
     requires { W ≤ 2 }
     ensures { IsPermutation {X = records.Cluster} clusters.old.items (clusters.new.items ++ option_to_list result) }
 {
@@ -188,7 +205,7 @@ fn take_largest<const W: usize>(clusters: &mut Vec<Component<W>>) -> Option<Comp
 }
 
 // The place of one of the most names.
-fn largest<const W: usize>(clusters: &[Component<W>]) -> usize
+fn largest<const W: usize>(clusters: &[Record<W>]) -> usize
     requires narrow { W ≤ 2 }
     requires some { 1 ≤ length clusters.now }
     ensures place { result < length clusters.now }

@@ -32,6 +32,7 @@ use component::{Component, Work};
 use graph_model::{Level, TxId};
 use name_book::NameBook;
 use outside::NoMemory;
+use record::Record;
 use step_count::{Ledger, Steps};
 
 /// Adds a name that is in neither level to the top level, alone in a cluster, with its fee in satoshis and its size in virtual bytes.
@@ -63,7 +64,7 @@ pub(crate) fn add_name<const W: usize, L: Ledger>(
     rings.reserve(1)?;
     let alloc = shelves.alloc;
     let cluster = Component::single(alloc, id, fee, size, work, steps)?;
-    shelves.rebuild(&[], Vec::new(alloc), Some(cluster), 0, &[])?;
+    shelves.rebuild(&[], Vec::new(alloc), Some(Record::within(cluster)), 0, &[])?;
     rings.add(id, shelves.is_staged());
     Ok(())
 }

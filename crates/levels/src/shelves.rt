@@ -17,6 +17,7 @@ use cluster_store::{ClusterStore, Exchange, Made};
 use component::Component;
 use graph_model::{Level, TxId};
 use outside::NoMemory;
+use record::Record;
 use staging::Overlay;
 use std::alloc::Global;
 use std::marker::Model;
@@ -80,7 +81,11 @@ impl<const W: usize> Shelves<W> {
         ensures { stored_at self.now.store.clusters number ≡ Some result.now }
     {
         let _numbers = &self.numbers;
-        at(&self.store, number)
+        match at(&self.store, number).component() {
+            Some(cluster) => cluster,
+            // what stands in a level has its order
+            None => unreachable!(),
+        }
     }
 
     /// The clusters under their numbers, and the parts of all of them in one order.
@@ -114,8 +119,8 @@ impl<const W: usize> Shelves<W> {
     pub(crate) fn rebuild(
         &mut self,
         outs: &[usize],
-        rest: Vec<Component<W>>,
-        last: Option<Component<W>>,
+        rest: Vec<Record<W>>,
+        last: Option<Record<W>>,
         kept: usize,
         gone: &[TxId],
     ) -> Result<Made, NoMemory>
@@ -184,8 +189,8 @@ impl<const W: usize> Shelves<W> {
 /// Makes room, so that the names of some clusters can get a number and as many names as `gone` can go.
 fn make_room<const W: usize>(
     numbers: &mut Overlay<usize>,
-    rest: &[Component<W>],
-    last: &Option<Component<W>>,
+    rest: &[Record<W>],
+    last: &Option<Record<W>>,
     gone: usize,
 ) -> Result<(), NoMemory>
     requires { W ≤ 2 }
@@ -201,7 +206,7 @@ fn make_room<const W: usize>(
 }
 
 /// How many names some clusters have, and so many more.
-fn name_count<const W: usize>(clusters: &[Component<W>], more: usize) -> Result<usize, NoMemory>
+fn name_count<const W: usize>(clusters: &[Record<W>], more: usize) -> Result<usize, NoMemory>
     requires { W ≤ 2 }
     ensures { IfOk result (λ n. n ≡ sum_by (λ c. length c.names) clusters.now + more) }
 {
@@ -213,7 +218,7 @@ fn name_count<const W: usize>(clusters: &[Component<W>], more: usize) -> Result<
 }
 
 /// How many names a cluster has, where there is one.
-pub(crate) fn last_count<const W: usize>(last: &Option<Component<W>>) -> usize
+pub(crate) fn last_count<const W: usize>(last: &Option<Record<W>>) -> usize
     requires { W ≤ 2 }
     ensures { result ≡ sum_by (λ c. length c.names) (option_to_list last.now) }
 {

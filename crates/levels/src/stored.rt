@@ -4,12 +4,12 @@ ghost use Rattle.levels.specs.Shelves.{stored_at, tag_at};
 
 use chunk_index::Tag;
 use cluster_store::{ClusterStore, Exchange};
-use component::Component;
 use outside::NoMemory;
+use record::Record;
 use std::alloc::Global;
 
 /// The cluster of a number that has one.
-pub(crate) fn at<const W: usize>(store: &ClusterStore<W>, number: usize) -> &Component<W>
+pub(crate) fn at<const W: usize>(store: &ClusterStore<W>, number: usize) -> &Record<W>
     requires { IsSome (stored_at store.now.clusters number) }
     ensures { stored_at store.now.clusters number ≡ Some result.now }
 {

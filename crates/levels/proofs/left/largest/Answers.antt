@@ -1,14 +1,14 @@
-use Rattle.levels.proofs.Rooms.{cluster_fits}
+use Rattle.levels.proofs.Rooms.{record_fits}
 use Rattle.std.proofs.Common.{arith, ap, sym, subst, ℕ, List, length, ◌<◌, ◌+◌}
 use Rattle.levels.proofs.Most.{IsMost, most_new, most_kept, most_of_all}
 use Rattle.levels.proofs.left.largest.Goals.{then-names, else-names}
 use Rattle.levels.proofs.left.largest.Goals as goal
 
 pub names-requires : goal.names-requires
-names-requires g c = cluster_fits g.row.W c.requires.narrow
+names-requires g c = record_fits g.row.W c.requires.narrow
 
 pub names-requires-in-loop-i : goal.names-requires-in-loop-i
-names-requires-in-loop-i g c = cluster_fits g.row.W c.requires.narrow
+names-requires-in-loop-i g c = record_fits g.row.W c.requires.narrow
 
 pub bounds-clusters-i : goal.bounds-clusters-i
 bounds-clusters-i g c = c.loop-i-test.true

@@ -6,7 +6,7 @@ use Rattle.staging.specs.Maps.{top_of}
 use Rattle.levels.specs.Changes.{PointsOne}
 use Rattle.levels.specs.Shelves.{stored_at}
 use Rattle.levels.proofs.Pointing.{PointsAllTo, all_more, all_of, base_more, got_here, names_in, one_at, one_list, room_at}
-use Rattle.levels.proofs.Rooms.{cluster_fits}
+use Rattle.levels.proofs.Rooms.{record_fits}
 use Rattle.levels.proofs.numbers.point_all.Goals as goal
 
 pub at-requires : goal.at-requires
@@ -14,7 +14,7 @@ at-requires g c =
     let narrow : g.row.W ≤ 2 = c.requires.narrow in
     let low : c.loop-i.i < length c.args.list.now = omega arith in
     let one = one_at (stored_at c.args.store.now.clusters) c.args.list.now c.requires.clusters.0 c.loop-i.i c.requires.clusters.1 low in
-    (omega arith, (cluster_fits g.row.W narrow, ap is_some one.2))
+    (omega arith, (record_fits g.row.W narrow, ap is_some one.2))
 
 pub point-requires : goal.point-requires
 point-requires g c =
@@ -60,7 +60,7 @@ returns-clause-points g c found are =
     (subst (λ n. PointsAllTo n c.args.list.now found (top_of c.args.numbers.now) (top_of c.loop-i.numbers)) all (c.loop-i.invariant.points found are apart))
 
 pub names-requires : goal.names-requires
-names-requires g c = cluster_fits g.row.W c.requires.narrow
+names-requires g c = record_fits g.row.W c.requires.narrow
 
 pub returns-clause-room : goal.returns-clause-room
 returns-clause-room g c found are = omega (arith, c.loop-i.invariant.room found are)

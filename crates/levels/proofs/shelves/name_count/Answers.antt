@@ -1,4 +1,4 @@
-use Rattle.levels.proofs.Rooms.{cluster_fits}
+use Rattle.levels.proofs.Rooms.{record_fits}
 use Rattle.std.proofs.Common.{arith, ap, ◌∙◌, List, length, ◌+◌, take_all, subst, Option, ℕ, ◌<◌, ◌^◌}
 use Rattle.std.specs.Prelude.{sum_by, SomeIff}
 use Rattle.cluster.specs.Clusters.{Cluster}
@@ -6,7 +6,7 @@ use Rattle.levels.proofs.Most.{more_names}
 use Rattle.levels.proofs.shelves.name_count.Goals as goal
 
 pub names-requires : goal.names-requires
-names-requires g c = cluster_fits g.row.W c.requires
+names-requires g c = record_fits g.row.W c.requires
 
 pub returns : goal.returns
 returns g c =

@@ -1,7 +1,9 @@
 -- One cluster comes of two.
-use Rattle.std.proofs.Common.{◌≡◌, ◌≤◌, ◌*◌, [], ◌∷◌, length, Some, refl, ap, arith}
+use Rattle.std.proofs.Common.{◌≡◌, ◌≤◌, ◌*◌, [], ◌∷◌, length, Some, refl, sym, ap, subst, arith}
 use Rattle.lists.proofs.Entries.{none_in_empty}
 use Rattle.graphs.specs.declared.names.Level.TheVariants.{Top}
+use Rattle.cluster.specs.Clusters.{Cluster}
+use Rattle.levels.specs.Moves.{PairsIn}
 use Rattle.levels.specs.Shelves.{numbers_at, seen_at}
 use Rattle.cluster_store.proofs.Listed.{only_one}
 use Rattle.levels.proofs.Making.{at_two, covers_joined}
@@ -47,7 +49,9 @@ returns-clause-joined g c =
     one other c.requires.link c.at-one.ensures c.at.ensures in
     let kept : length c.names-kept.result.now ≡ length one.names = ap length c.names-kept.ensures.names in
     let first_whole = c.requires.order.top.whole c.args.first one is.one_at in
-    pairs_in g.row.W (c.args.first ∷ c.args.second ∷ []) c.args.parent c.args.child (one ∷ other ∷ []) now c.new-rest.result.items (Some now)
+    subst (λ (k : Cluster). PairsIn g.row.W (c.args.first ∷ c.args.second ∷ []) c.args.parent c.args.child c.new-rest.result.items (Some k)
+    (length c.names-kept.result.now) c.args.self.now) (sym c.within.ensures)
+    (pairs_in g.row.W (c.args.first ∷ c.args.second ∷ []) c.args.parent c.args.child (one ∷ other ∷ []) now c.new-rest.result.items (Some now)
     (length c.names-kept.result.now) c.args.self.now c.new-rest.ensures.items refl
     ((λ here. is.apart (only_one c.args.second c.args.first here)), (none_in_empty c.args.second, tt))
     (at_two (seen_at Top c.args.self.now.store.clusters) c.args.first c.args.second one other is.one_at is.other_at)
@@ -56,7 +60,7 @@ returns-clause-joined g c =
     (λ id here. c.requires.order.top.listed c.args.first id one is.one_at here))
     (omega (arith, kept, first_whole.some))
     (pair_between (64 * g.row.W) c.args.parent c.args.child one other now first_whole
-    (c.requires.order.top.whole c.args.second other is.other_at) c.in_ok-joined.ensures.names c.in_ok-joined.ensures.graph is.across)
+    (c.requires.order.top.whole c.args.second other is.other_at) c.in_ok-joined.ensures.names c.in_ok-joined.ensures.graph is.across))
 
 pub returns-clause-steps : goal.returns-clause-steps
 returns-clause-steps g c ids lists =

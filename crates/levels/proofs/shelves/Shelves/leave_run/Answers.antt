@@ -37,6 +37,14 @@ returns-in_err-pieces-clause-steps g c k lists at are =
     c.without.ensures.steps lists
     (subst₂ (λ (e : Cluster) (xs : List ℕ). AreComponents e.graph xs lists) one (sym told) are)
 
+pub returns-in_err-records-clause-steps : goal.returns-in_err-records-clause-steps
+returns-in_err-records-clause-steps g c k lists at are =
+    let seen = run_seen g.row.W c.args.self.now c.requires.order c.args.number c.args.run.now c.requires.run c.at.result.now c.at.ensures in
+    let one : k ≡ c.at.result.now = same_Some k c.at.result.now (sym at ∙ seen) in
+    let told : c.as_slice.result.now ≡ names_of c.args.run.now = c.as_slice.ensures.value ∙ c.in_ok-names.ensures in
+    c.without.ensures.steps lists
+    (subst₂ (λ (e : Cluster) (xs : List ℕ). AreComponents e.graph xs lists) one (sym told) are)
+
 pub returns-clause-left : goal.returns-clause-left
 returns-clause-left g c =
     let seen = run_seen g.row.W c.args.self.now c.requires.order c.args.number c.args.run.now c.requires.run c.at.result.now c.at.ensures in
@@ -48,7 +56,7 @@ returns-clause-left g c =
       subst (λ (xs : List ℕ). IsSplit c.at.result.now.graph xs c.in_ok-pieces.pieces) told c.in_ok-pieces.ensures.split,
       c.in_ok-pieces.ensures.whole,
       subst (λ (cs : List Cluster). Takes c.args.number cs c.args.left.now.outs.items c.args.left.now.rest.items c.args.left.now.last
-          c.take.new.self.outs.items c.take.new.self.rest.items c.take.new.self.last) c.into_vec.ensures takes,
+          c.take.new.self.outs.items c.take.new.self.rest.items c.take.new.self.last) (c.in_ok-records.ensures ∙ c.into_vec.ensures) takes,
     )) c.take.ensures
 
 pub returns-clause-steps : goal.returns-clause-steps

@@ -3,6 +3,8 @@ use Rattle.std.proofs.Common.{◌≡◌, ◌≤◌, ℕ, List, [], ◌∷◌, le
 use Rattle.std.proofs.lemmas.List.{append-nil}
 use Rattle.lists.proofs.Entries.{none_in_empty}
 use Rattle.graphs.specs.declared.names.Level.TheVariants.{Top}
+use Rattle.cluster.specs.Clusters.{Cluster}
+use Rattle.levels.specs.Moves.{PairsIn}
 use Rattle.levels.specs.Shelves.{numbers_at, seen_at}
 use Rattle.cluster_store.proofs.Listed.{at_one}
 use Rattle.levels.proofs.Making.{covers_same}
@@ -51,7 +53,9 @@ returns-clause-linked g c =
     let numbers = numbers_at Top c.args.self.now in
     let at = seen_there g.row.W c.args.self.now c.requires.order Top c.args.parent c.args.number c.requires.link.0 was c.at-cluster.ensures in
     let kept : length c.names-kept.result.now ≡ length now.names = ap length c.names-kept.ensures.names in
-    pairs_in g.row.W (c.args.number ∷ []) c.args.parent c.args.child (was ∷ []) now c.new-rest.result.items (Some now) (length c.names-kept.result.now)
+    subst (λ (k : Cluster). PairsIn g.row.W (c.args.number ∷ []) c.args.parent c.args.child c.new-rest.result.items (Some k) (length c.names-kept.result.now)
+    c.args.self.now) (sym c.within.ensures)
+    (pairs_in g.row.W (c.args.number ∷ []) c.args.parent c.args.child (was ∷ []) now c.new-rest.result.items (Some now) (length c.names-kept.result.now)
     c.args.self.now c.new-rest.ensures.items refl (none_in_empty c.args.number, tt)
     (at_one (seen_at Top c.args.self.now.store.clusters) c.args.number was at)
     (covers_same g.row.W was now numbers c.in_ok-changed.ensures.whole c.in_ok-changed.ensures.names)
@@ -60,7 +64,7 @@ returns-clause-linked g c =
     (omega (arith, kept, c.in_ok-changed.ensures.whole.some))
     (pair_within c.args.parent c.args.child was now c.in_ok-changed.ensures.names c.in_ok-changed.ensures.graph
     (held g.row.W c.args.self.now c.requires.order Top c.args.parent c.args.number c.requires.link.0 was at)
-    (held g.row.W c.args.self.now c.requires.order Top c.args.child c.args.number c.requires.link.1 was at))
+    (held g.row.W c.args.self.now c.requires.order Top c.args.child c.args.number c.requires.link.1 was at)))
 
 pub returns-clause-steps : goal.returns-clause-steps
 returns-clause-steps g c ids lists =

@@ -13,7 +13,7 @@ use Rattle.levels.specs.Views.{Numbers}
 use Rattle.levels.proofs.Calls.{Turns, none_staged, same_top, shelf_of, turns_by, turns_same, turns_then}
 use Rattle.levels.proofs.Pointing.{names_in}
 use Rattle.levels.proofs.Rebuilding.{AreTurned, is_made, last_stored, last_there, may_leave, order_made, pairs_left, rest_stored}
-use Rattle.levels.proofs.Rooms.{cluster_fits}
+use Rattle.levels.proofs.Rooms.{record_fits}
 use Rattle.levels.proofs.shelves.Shelves.rebuild.Given as given
 use Rattle.levels.proofs.shelves.Shelves.rebuild.Goals as goal
 
@@ -22,17 +22,17 @@ rebuild-requires g c =
     let at = subst (λ (s : Shelf). AreAt (seen_at Top s.store.clusters) c.args.outs.now c.requires.comes.0) (sym c.self.view_is) c.requires.comes.1 in (
       omega arith,
       (
-        cluster_fits g.row.W c.self.invariant.narrow,
+        record_fits g.row.W c.self.invariant.narrow,
         may_leave c.staged-staged.result c.args.outs.now c.requires.comes.0 c.self.inside.store.clusters c.requires.once at
             (λ shut. c.self.invariant.both (none_staged c.self.inside.numbers.top c.staged-staged.result c.staged-staged.ensures shut)),
       ),
     )
 
 pub make_room-requires : goal.make_room-requires
-make_room-requires g c = (cluster_fits g.row.W c.self.invariant.narrow, c.self.invariant.narrow)
+make_room-requires g c = (record_fits g.row.W c.self.invariant.narrow, c.self.invariant.narrow)
 
 pub drop-rest-requires : goal.drop-rest-requires
-drop-rest-requires g c κs = ((cluster_fits g.row.W c.self.invariant.narrow, tt), search rules)
+drop-rest-requires g c κs = ((record_fits g.row.W c.self.invariant.narrow, tt), search rules)
 
 pub unpoint-requires : goal.unpoint-requires
 unpoint-requires g c = omega (arith, c.in_ok-make_room.ensures.room)

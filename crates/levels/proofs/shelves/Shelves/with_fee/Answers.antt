@@ -9,7 +9,7 @@ use Rattle.cluster.specs.Clusters.{Cluster}
 use Rattle.cluster.specs.Steps.{GrowsWithin, most_steps}
 use Rattle.cluster_store.specs.Stores.{Exchange}
 use Rattle.levels.specs.Moves.{IsPriced}
-use Rattle.levels.proofs.Rooms.{cluster_fits, exchange_fits, work_fits}
+use Rattle.levels.proofs.Rooms.{cluster_fits, exchange_fits, record_fits, work_fits}
 use Rattle.levels.proofs.shelves.Shelves.with_fee.Goals as goal
 
 pub at-requires : goal.at-requires
@@ -29,7 +29,7 @@ with_fee-requires g c =
     )
 
 pub new-requires : goal.new-requires
-new-requires g c = (cluster_fits g.row.W c.requires.order.narrow, exchange_fits g.row.W c.requires.order.narrow)
+new-requires g c = (record_fits g.row.W c.requires.order.narrow, exchange_fits g.row.W c.requires.order.narrow)
 
 pub returns-in_err-changed-clause-steps : goal.returns-in_err-changed-clause-steps
 returns-in_err-changed-clause-steps g c d at =
@@ -47,7 +47,8 @@ returns-clause-number g c = ap (λ (x : Exchange). x.number) c.new.ensures
 pub returns-clause-priced : goal.returns-clause-priced
 returns-clause-priced g c =
     let same = same_Some c.requires.there.0 c.at.result.now (sym c.requires.there.1 ∙ c.at.ensures) in
-    subst (λ (x : Exchange). IsPriced g.row.W c.args.id c.args.fee x c.args.self.now) (sym c.new.ensures) (record {
+    subst (λ (x : Exchange). IsPriced g.row.W c.args.id c.args.fee x c.args.self.now) (sym c.new.ensures)
+    (subst (λ (k : Cluster). IsPriced g.row.W c.args.id c.args.fee (record { number = c.args.number; cluster = k }) c.args.self.now) (sym c.within.ensures) (record {
       was = c.at.result.now;
       at = c.at.ensures;
       held = subst (λ (d : Cluster). Contains d.names c.args.id) same c.requires.there.2;
@@ -55,4 +56,4 @@ returns-clause-priced g c =
       names = c.in_ok-changed.ensures.names;
       sets = subst (λ (z : ℤ). SetsFee c.at.result.now.graph c.in_ok-changed.changed.graph c.args.id z) (to_z-of_z w64 c.args.fee c.ranges.fee)
           c.in_ok-changed.ensures.graph;
-    })
+    }))
