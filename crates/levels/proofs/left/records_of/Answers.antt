@@ -8,8 +8,13 @@ pub loop-component-init : goal.loop-component-init
 loop-component-init g c = record {
   split = c.into_iter-component-iterator.ensures.into_iter_gives.0;
   same = c.in_ok-records.ensures.items;
-  room = omega (arith, c.in_ok-records.ensures.len, c.in_ok-records.ensures.capacity, c.len.ensures,
-      ap length c.into_iter-component-iterator.ensures.into_iter_gives.0);
+  room = omega (
+    arith,
+    c.in_ok-records.ensures.len,
+    c.in_ok-records.ensures.capacity,
+    c.len.ensures,
+    ap length c.into_iter-component-iterator.ensures.into_iter_gives.0,
+  );
 }
 
 pub push_reserved-requires : goal.push_reserved-requires
