@@ -1,8 +1,8 @@
 -- One cluster more has an order, or has none.
-use Rattle.std.proofs.Common.{◌≡◌, [], length, refl, true≢false, sym, ap, ◌∙◌, subst}
+use Rattle.std.proofs.Common.{◌≡◌, [], length, refl, true≢false, sym, ap, ◌∙◌}
 use Rattle.cluster.specs.Clusters.{Cluster}
 use Rattle.cluster_store.proofs.Done.{no_items}
-use Rattle.cluster_store.proofs.Lacking.{all_of, counts_none, none_counted, none_yet, one_more}
+use Rattle.cluster_store.proofs.Lacking.{all_of, none_yet, one_more}
 use Rattle.cluster_store.proofs.unordered.has_unordered.Goals as goal
 
 pub loop-at-init : goal.loop-at-init
