@@ -12,7 +12,9 @@
 
 mod joining;
 mod kept;
+mod leaving;
 mod over;
 mod record;
+mod solving;
 
 pub use record::Record;
