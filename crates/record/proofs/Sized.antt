@@ -39,6 +39,12 @@ again_is most c whole = by c.parts (λ none. has_parts most c whole none)
     by [] some = absurd (some refl)
     by (part ∷ parts) some = refl
 
+-- a component with its order is ordered anew
+pub ordered_again : (most : ℕ) (c s : Cluster) → c ≡ s → IsCluster most s → (before after : ℕ) → GrowsWithin (most_steps (length c.names)) before after
+    → GrowsWithin (most_steps_again s) before after
+ordered_again most c s is whole before after grows =
+    subst (λ (m : ℕ). GrowsWithin m before after) (ap (λ (x : Cluster). most_steps (length x.names)) is ∙ sym (again_is most s whole)) grows
+
 -- ---- links within the limits or over them
 
 module _ (limits : Limits) (links : Links) (are : AreLinks links) (one two : Txs) (one_is : one ≡ links.txs) (two_is : two ≡ links.txs) (size : ℕ)
