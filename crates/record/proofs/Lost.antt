@@ -49,10 +49,10 @@ module _ (s : Cluster) (old left : Links) (gone : List ℕ) (are : AreLinks old)
   lost_few most few =
       let inside : (id : ℕ) → Contains (names_of left.txs) id → Contains (names_of old.txs) id =
       λ id here.
-          (let (tx, there, same) = map-Contains (λ (t : ℕ × ℤ × ℕ). t.0) left.txs id here in
-          subst (λ (x : ℕ). Contains (names_of old.txs) x) same
-          (Contains-map (λ (t : ℕ × ℤ × ℕ). t.0) old.txs tx (filter-Contains (λ (t : ℕ × ℤ × ℕ). not (goes gone t.0)) old.txs tx
-          (subst (λ (xs : Txs). Contains {X = ℕ × ℤ × ℕ} xs tx) txs there)).1)) in
+      (let (tx, there, same) = map-Contains (λ (t : ℕ × ℤ × ℕ). t.0) left.txs id here in
+      subst (λ (x : ℕ). Contains (names_of old.txs) x) same
+      (Contains-map (λ (t : ℕ × ℤ × ℕ). t.0) old.txs tx (filter-Contains (λ (t : ℕ × ℤ × ℕ). not (goes gone t.0)) old.txs tx
+      (subst (λ (xs : Txs). Contains {X = ℕ × ℤ × ℕ} xs tx) txs there)).1)) in
       let within = (distinct_within (λ (x : ℕ). x) (names_of left.txs) (names_of old.txs) are'.graph_is.names inside).0 in
       let own = names_long left.txs in
       let all : length (names_of old.txs) ≡ length s.names = ap (λ (c : Cluster). length c.names) is in

@@ -32,10 +32,7 @@ pub(crate) fn ordered<const W: usize>(
 }
 
 // A member for each transaction, without a dependency.
-fn members<const W: usize>(
-    alloc: Global,
-    txs: &[(TxId, i64, u64)],
-) -> Result<DepGraph<W>, NoMemory>
+fn members<const W: usize>(alloc: Global, txs: &[(TxId, i64, u64)]) -> Result<DepGraph<W>, NoMemory>
     requires narrow { W ≤ 64 }
     requires few { length txs.now ≤ 64 * W }
     requires links { AreLinks (record { txs = txs.now; pairs = [] }) }

@@ -58,12 +58,20 @@ split_up-requires g c =
     let old = c.deref.result.now.links in
     let held = over_held (64 * g.row.W) c.self.inside.kept c.in-Over.over c.deref.result.now c.in-Over.is c.deref.ensures c.self.invariant.2 in
     let is = over_is c.self.inside.kept c.in-Over.over c.deref.result.now c.args.self.now c.in-Over.is c.deref.ensures c.self.view_is in
-    let left = c.in_ok-left-in-Over.left in
-    (lit< tt, (lit< tt, ((c.self.invariant.0, c.self.invariant.1), (
-      c.requires.few,
-      lost_few c.args.self.now old left c.args.names.now held.links is c.txs-left.ensures.whole c.in_ok-left-in-Over.ensures.txs
-    c.in_ok-left-in-Over.ensures.ancestors MAX_TOTAL c.requires.total,
-    ))))
+    let left = c.in_ok-left-in-Over.left in (
+      lit< tt,
+      (
+        lit< tt,
+        (
+          (c.self.invariant.0, c.self.invariant.1),
+          (
+            c.requires.few,
+            lost_few c.args.self.now old left c.args.names.now held.links is c.txs-left.ensures.whole c.in_ok-left-in-Over.ensures.txs
+                c.in_ok-left-in-Over.ensures.ancestors MAX_TOTAL c.requires.total,
+          ),
+        ),
+      ),
+    )
 
 pub returns-in_ok-left-in-Over-clause-split : goal.returns-in_ok-left-in-Over-clause-split
 returns-in_ok-left-in-Over-clause-split g c =
