@@ -272,6 +272,18 @@ fn paired<L: Ledger>(
     Ok(())
 }
 
+// A record over the limits with another fee, and with one dependency more.
+fn changed<L: Ledger>(
+    rt: &impl Abort,
+    alloc: Global,
+    work: &mut Work<2>,
+    steps: &mut Steps<L>,
+    three: &mut Record<2>,
+) -> Result<(), Fail> {
+    priced(rt, alloc, work, steps, three)?;
+    paired(rt, alloc, work, steps, three)
+}
+
 // A record over the limits is changed.
 fn changed_over_the_limits<L: Ledger>(
     rt: &impl Abort,
@@ -280,11 +292,9 @@ fn changed_over_the_limits<L: Ledger>(
     steps: &mut Steps<L>,
 ) -> Result<(), Fail> {
     let mut three = chain_of_three(rt, alloc, work, steps)?;
-    let first = priced(rt, alloc, work, steps, &three);
-    let second = paired(rt, alloc, work, steps, &mut three);
+    let told = changed(rt, alloc, work, steps, &mut three);
     drop(three);
-    first?;
-    second
+    told
 }
 
 fn all_of_them<L: Ledger>(
