@@ -25,5 +25,8 @@ loop-at-preserved g c =
     (c.part_count.ensures ∙ ap (λ (d : Cluster). length d.parts) c.index-clusters-at.is ∙ ap length none))
 
 pub returns : goal.returns
-returns g c = (λ none. absurd (true≢false (sym none)), λ (d, here, none). absurd (all_of (λ (d : Cluster). d.parts ≡ [] → ⊥) c.args.clusters.now c.loop-at.at c.loop-at-test.false
-    c.loop-at.invariant d here none))
+returns g c = (
+  λ none. absurd (true≢false (sym none)),
+  λ (d, here, none). absurd (all_of (λ (d : Cluster). d.parts ≡ [] → ⊥) c.args.clusters.now c.loop-at.at c.loop-at-test.false
+      c.loop-at.invariant d here none),
+)

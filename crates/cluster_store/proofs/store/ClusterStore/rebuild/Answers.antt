@@ -57,7 +57,7 @@ list_made-requires g c =
     let made = c.in_ok-made.made in
     let news = c.args.rest.items ++ option_to_list c.args.last in
     let came : (n : ℕ) → IsUnordered (at c.rebuild.new.slots.slots n)
-      → (Contains (made.rest.items ++ option_to_list made.last) n × HasUnordered news) ⊎ IsUnordered (at c.self.inside.slots.slots n) =
+    → (Contains (made.rest.items ++ option_to_list made.last) n × HasUnordered news) ⊎ IsUnordered (at c.self.inside.slots.slots n) =
     unordered_came c.args.staged c.args.outs.now (made.rest.items ++ option_to_list made.last) news c.self.inside.slots.slots c.rebuild.new.slots.slots
     rebuilt.exchanged in (
       stored_fits g.row.W c.self.invariant.kept.narrow,
@@ -93,15 +93,15 @@ invariant_of-self-2 g c =
     lowest_told c.lowest_of_all-least.result c.lowest_of_last-least.result c.self.inside.least c.as_slice.result.now c.args.rest.items c.args.last
     c.lowest_of_all-least.ensures.least c.as_slice.ensures.value c.lowest_of_last-least.ensures.least in
     record {
-    kept = subst (IsKept g.row.W c.rebuild.new.slots.slots c.rebuild.new.index) (sym least)
-    (kept_came g.row.W news slots c.rebuild.new.slots.slots c.self.inside.index c.rebuild.new.index c.self.inside.least c.self.invariant.kept
-    c.in_ok-made.ensures.shown
-    (joined_whole (64 * g.row.W) c.args.rest.items c.args.last
-    (λ d here. c.lowest_of_all-least.ensures.whole d (subst (λ (cs : List Cluster). Contains cs d) (sym c.as_slice.ensures.value) here))
-    c.lowest_of_last-least.ensures.whole)
-    (slots_from c.args.staged c.args.outs.now (made.rest.items ++ option_to_list made.last) news slots c.rebuild.new.slots.slots
-    c.in_ok-made.ensures.rebuilt.exchanged));
-    unordered = c.list_made.ensures;
+      kept = subst (IsKept g.row.W c.rebuild.new.slots.slots c.rebuild.new.index) (sym least)
+          (kept_came g.row.W news slots c.rebuild.new.slots.slots c.self.inside.index c.rebuild.new.index c.self.inside.least c.self.invariant.kept
+          c.in_ok-made.ensures.shown
+          (joined_whole (64 * g.row.W) c.args.rest.items c.args.last
+          (λ d here. c.lowest_of_all-least.ensures.whole d (subst (λ (cs : List Cluster). Contains cs d) (sym c.as_slice.ensures.value) here))
+          c.lowest_of_last-least.ensures.whole)
+          (slots_from c.args.staged c.args.outs.now (made.rest.items ++ option_to_list made.last) news slots c.rebuild.new.slots.slots
+          c.in_ok-made.ensures.rebuilt.exchanged));
+      unordered = c.list_made.ensures;
     }
 
 pub returns-clause-rebuilt : goal.returns-clause-rebuilt
