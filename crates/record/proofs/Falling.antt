@@ -1,6 +1,6 @@
 -- The records of the components of links.
 use Rattle.std.proofs.Common.{◌≡◌, ◌≢◌, ℕ, ℤ, ◌+◌, ◌≤◌, true, List, [], ◌∷◌, length, map, Contains, inl, inr, refl, sym, ap, ◌∙◌, subst, arith}
-use Rattle.std.specs.Prelude.{All, sum_by}
+use Rattle.std.specs.Prelude.{All}
 use Rattle.std.specs.List.{AllPairs}
 use Rattle.std.proofs.lemmas.Simd.{map-map}
 use Rattle.std.proofs.lemmas.List.{length-map}
@@ -17,7 +17,7 @@ use Rattle.graphs.specs.Certificates.{Txs}
 use Rattle.graphs.specs.Closures.{is_member, is_ancestor, rate_of, Closure, IsRelated}
 use Rattle.graph_model.specs.declared.names.Limits.{Limits}
 use Rattle.cluster.specs.Clusters.{Cluster, AreApart}
-use Rattle.cluster.specs.Changes.{AreComponents, AreNearLeft, IsAncestorIn, IsLeft, IsSplit}
+use Rattle.cluster.specs.Changes.{AreComponents, AreNearLeft, IsLeft, IsSplit}
 use Rattle.links.specs.Links.{Links, AreLinks, Has}
 use Rattle.links.specs.Kept.{names_of}
 use Rattle.links.specs.Closing.{closure}
@@ -30,7 +30,7 @@ use Rattle.links.proofs.Splitting.{falls_into}
 use Rattle.record.specs.Kept.{unordered}
 use Rattle.record.specs.Leaving.{AreLike, IsOneComponent, bare, most_steps_of_links}
 use Rattle.record.specs.Records.{IsConnected}
-use Rattle.record.specs.Steps.{most_steps_fit, most_steps_fit_of, most_steps_within, total_size}
+use Rattle.record.specs.Steps.{most_steps_fit, most_steps_fit_of, most_steps_within}
 use Rattle.record.proofs.Pieces.{IsOneOf, are_components, apart_lists, bounded, one_entry, pairs_back, pairs_map}
 
 abbrev pub names_in : Links → List ℕ

@@ -1,8 +1,7 @@
 -- Some names of a component within the limits are within them too.
-use Rattle.std.proofs.Common.{◌≡◌, ℕ, ◌+◌, ◌<◌, ◌≤◌, ◌||◌, Bool, true, false, cond, nat_lt, List, [], length, map, Contains, inl, inr, sym, ap, ap₂, ◌∙◌, subst, le-ltb, arith}
+use Rattle.std.proofs.Common.{◌≡◌, ℕ, ◌+◌, ◌≤◌, ◌||◌, Bool, false, cond, List, length, map, Contains, inl, inr, ap, ap₂, le-ltb, arith}
 use Rattle.std.specs.Prelude.{All, sum_by}
-use Rattle.std.proofs.lemmas.Bool.{cases_lt, or_left, or_right}
-use Rattle.std.proofs.lemmas.Bool.Decides.{nat_tests}
+use Rattle.std.proofs.lemmas.Bool.{cases_lt}
 use Rattle.std.proofs.lemmas.List.Elements.{All-weaker, All-contains_itself, All-contains}
 use Rattle.arithmetic.proofs.Sums.{sum_by_along}
 use Rattle.lists.specs.Distinct.{AreDistinct}
@@ -10,12 +9,11 @@ use Rattle.lists.proofs.Distinct.{distinct_within}
 use Rattle.lists.proofs.Entries.{Contains-map}
 use Rattle.lists.proofs.Flats.{flat_has, flat_part_once}
 use Rattle.fee_rate.specs.declared.rates.FeeRate.{FeeRate}
-use Rattle.graphs.specs.Closures.{Closure, rate_of}
 use Rattle.graph_model.specs.declared.names.Limits.{Limits}
 use Rattle.cluster.specs.Clusters.{Cluster, IsCluster}
 use Rattle.cluster.specs.Changes.{AreComponents, IsSplit}
 use Rattle.cluster.specs.Steps.{most_steps, most_steps_of}
-use Rattle.record.specs.Records.{IsFitted, IsOver}
+use Rattle.record.specs.Records.{IsFitted}
 use Rattle.record.specs.Steps.{is_over, most_steps_fit, most_steps_fit_of, most_steps_within, total_size}
 use Rattle.record.proofs.Connected.{IsCluster-connected}
 use Rattle.record.proofs.Fitting.{size_in}

@@ -1,12 +1,12 @@
 -- What is left of links without some names is split as what is left of the whole.
-use Rattle.std.proofs.Common.{◌≡◌, ◌↔◌, ℕ, ◌+◌, ◌≤◌, Bool, true, false, ◌&&◌, not, List, [], length, map, Contains, inl, inr, refl, sym, ap, ◌∙◌, subst, true≢false, arith}
+use Rattle.std.proofs.Common.{◌≡◌, ℕ, ◌+◌, ◌≤◌, true, false, ◌&&◌, not, List, [], length, map, Contains, inl, inr, sym, ap, ◌∙◌, true≢false, arith}
 use Rattle.std.proofs.lemmas.Bool.{and_from, and_parts, false_from_ne_true}
 use Rattle.arithmetic.proofs.Sums.{sum_by_along}
 use Rattle.lists.proofs.Entries.{none_in_empty, Contains-map}
 use Rattle.lists.proofs.Flats.{flat_has}
 use Rattle.lists.proofs.Walks.{Walk-map}
 use Rattle.fee_rate.specs.declared.rates.FeeRate.{FeeRate}
-use Rattle.graphs.specs.Closures.{Closure, is_member, is_ancestor, rate_of, IsRelated}
+use Rattle.graphs.specs.Closures.{Closure, is_member, is_ancestor, rate_of}
 use Rattle.graph_model.specs.declared.names.Limits.{Limits}
 use Rattle.cluster.specs.Clusters.{Cluster}
 use Rattle.cluster.specs.Changes.{AreComponents, AreNearLeft, IsLeft, IsSplit}

@@ -1,13 +1,12 @@
 -- Lists of names that are the components of what is left of a graph, and the steps that their orders take.
-use Rattle.std.proofs.Common.{◌≡◌, ◌↔◌, ℕ, ◌+◌, ◌<◌, ◌≤◌, List, [], ◌∷◌, ◌++◌, length, map, get_or, Contains, inl, inr, sym, ap, ap₂, ◌∙◌, subst, arith, zero-add, zero, suc}
-use Rattle.std.specs.Prelude.{sum_by}
+use Rattle.std.proofs.Common.{◌≡◌, ◌↔◌, ℕ, ◌+◌, ◌<◌, ◌≤◌, List, [], ◌∷◌, ◌++◌, length, map, get_or, Contains, inl, inr, sym, ap, ap₂, ◌∙◌, subst, arith, zero-add, suc}
 use Rattle.std.specs.List.{flat_map, AllPairs}
 use Rattle.std.proofs.lemmas.Bool.{cases_eq, cases_lt}
 use Rattle.std.proofs.lemmas.List.{get_or_default, get_or-map, length-map}
 use Rattle.std.proofs.lemmas.List.Sums.{sum_by-append}
 use Rattle.std.proofs.lemmas.List.Elements.{Contains-append_cases, Contains-append_left, Contains-append_right}
 use Rattle.lists.proofs.Distinct.{distinct_within, distinct_joined}
-use Rattle.lists.proofs.Entries.{Contains-cases, Contains-head, Contains-later, none_in_empty, Contains-splits, map-Contains}
+use Rattle.lists.proofs.Entries.{Contains-cases, Contains-head, Contains-later, Contains-splits}
 use Rattle.lists.proofs.Walks.{Walk-keeps}
 use Rattle.lists.specs.Distinct.{AreDistinct}
 use Rattle.lists.specs.Walks.{Walk}

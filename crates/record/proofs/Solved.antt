@@ -1,5 +1,5 @@
 -- Links that are solved keep their names and their graph.
-use Rattle.std.proofs.Common.{◌≡◌, ℕ, ℤ, pos, ◌<◌, ◌≤◌, Bool, true, false, List, [], ◌∷◌, length, slice_index, inl, inr, refl, sym, ap, ◌∙◌, subst, subst₂, ap₂, lt-ltb, arith}
+use Rattle.std.proofs.Common.{◌≡◌, ℕ, pos, ◌<◌, ◌≤◌, Bool, true, false, List, [], ◌∷◌, length, slice_index, inl, inr, refl, sym, ap, ◌∙◌, subst, subst₂, ap₂, lt-ltb, arith}
 use Rattle.std.specs.Prelude.{Contains}
 use Rattle.std.specs.Cmp.{both_ways}
 use Rattle.std.proofs.lemmas.Bool.{ltb-true}
@@ -9,7 +9,6 @@ use Rattle.lists.specs.Walks.{Walk, IsWalk}
 use Rattle.bitset.specs.Places.{places, IsWithin}
 use Rattle.fee_rate.specs.Limits.{IsRate}
 use Rattle.fee_rate.specs.declared.rates.FeeRate.{FeeRate}
-use Rattle.graphs.specs.Certificates.{Txs}
 use Rattle.graphs.specs.Closures.{is_member, is_ancestor, rate_of, members_of, Closure, IsNear, IsRelated}
 use Rattle.graphs.proofs.Members.{contains-members_of}
 use Rattle.linearize.specs.Graphs.{HasRates, IsComponent}
@@ -18,10 +17,10 @@ use Rattle.cluster.specs.Changes.{AreNamesOf, TakesNames}
 use Rattle.links.specs.Links.{Links, AreLinks}
 use Rattle.links.specs.Kept.{names_of}
 use Rattle.links.specs.Closing.{closure}
-use Rattle.links.proofs.Closed.{member_is, rates_are, ancestors_are, orders}
+use Rattle.links.proofs.Closed.{member_is, rates_are, ancestors_are}
 use Rattle.record.specs.Kept.{unordered}
 use Rattle.record.specs.Records.{IsConnected, IsLike}
-use Rattle.record.specs.Solving.{StandsFor, tx_at, rate_at}
+use Rattle.record.specs.Solving.{StandsFor, tx_at}
 use Rattle.record.proofs.Equal.{closure_is, no_member_rate}
 use Rattle.record.proofs.Standing.{first_place_at, members_within, members_many, names_long, place_told, same_place, name_told}
 

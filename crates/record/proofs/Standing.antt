@@ -1,5 +1,5 @@
 -- A dependency graph that is made of transactions and pairs.
-use Rattle.std.proofs.Common.{rules, SFits, to_z, of_z, ◌≡◌, ◌↔◌, ℕ, ℤ, zero, suc, ◌<◌, ◌≤◌, ◌+◌, ◌*◌, ◌||◌, ◌&&◌, Bool, true, false, nat_eq, nat_lt, List, [], ◌∷◌, ◌++◌, length, take, drop, slice_index, slice_index_or, pos, inl, inr, refl, sym, ap, ap₂, ◌∙◌, subst, subst₂, true≢false, eqb-true, eq-eqb, lt-ltb, le-ltb, zero-add, arith}
+use Rattle.std.proofs.Common.{rules, SFits, to_z, of_z, ◌≡◌, ℕ, ℤ, zero, suc, ◌<◌, ◌≤◌, ◌+◌, ◌||◌, ◌&&◌, Bool, false, nat_eq, nat_lt, List, [], ◌∷◌, ◌++◌, length, take, drop, slice_index, pos, inl, inr, sym, ap, ap₂, ◌∙◌, subst, true≢false, eqb-true, eq-eqb, lt-ltb, le-ltb, zero-add, arith}
 use Rattle.std.specs.Prelude.{Contains, Option, is_some}
 use Rattle.std.specs.List.{range_with_len}
 use Rattle.std.specs.Int.{w64}

@@ -1,4 +1,4 @@
-use Rattle.std.proofs.Common.{◌≡◌, ◌*◌, List, ℕ, [], map, lit<, sym, subst}
+use Rattle.std.proofs.Common.{List, ℕ, [], map, lit<, sym, subst}
 use Rattle.std.specs.Prelude.{Contains}
 use Rattle.std.proofs.lemmas.Result.{IfOk-weaker}
 use Rattle.cluster.specs.Clusters.{Cluster}

@@ -1,4 +1,4 @@
-use Rattle.std.proofs.Common.{◌≡◌, ◌*◌, ◌<◌, ◌≤◌, ◌+◌, ℕ, ℤ, length, slice_index_or, arith}
+use Rattle.std.proofs.Common.{◌≡◌, arith}
 use Rattle.std.specs.FinSet as set
 use Rattle.graphs.specs.Closures.{members_of}
 use Rattle.record.proofs.Standing.{none_alone, alone_more, alone_stands, fee_read, members_many}

@@ -1,4 +1,4 @@
-use Rattle.std.proofs.Common.{◌≡◌, ◌*◌, length, sym, ◌∙◌, subst, true≢false}
+use Rattle.std.proofs.Common.{◌≡◌, ◌*◌, sym, ◌∙◌, subst, true≢false}
 use Rattle.std.proofs.lemmas.Result.{IfOk-weaker}
 use Rattle.cluster.specs.Clusters.{Cluster, IsCluster}
 use Rattle.graphs.specs.Certificates.{Txs}
