@@ -1,14 +1,13 @@
 //! What is left of a component without some names: records of its components.
-ghost use Rattle.std.specs.Prelude.{◌≡◌, ℕ, ◌+◌, ◌*◌, ◌≤◌, [], List, length, map, All, Contains, IfOk};
+ghost use Rattle.std.specs.Prelude.{◌≡◌, ◌*◌, ◌≤◌, [], length, map, All, Contains, IfOk};
 ghost use Rattle.fee_rate.specs.declared.limits.TheConstants.{MAX_TOTAL};
 ghost use Rattle.cluster.specs.Changes.{AreComponents, IsSplit};
 ghost use Rattle.cluster.specs.Steps.{GrowsWithin};
 ghost use Rattle.links.specs.Links.{AreLinks};
 ghost use Rattle.links.specs.Links.{Links as links_value};
 ghost use Rattle.links.specs.Closing.{closure};
-ghost use Rattle.record.specs.Leaving.{AreLike, IsOneComponent, most_steps_of_links};
+ghost use Rattle.record.specs.Leaving.{AreLike, GrowsFor, IsOneComponent, IsWideFor, most_steps_of_links};
 ghost use Rattle.record.specs.Records.{IsFitted};
-ghost use Rattle.record.specs.Steps.{most_steps_fit_of};
 
 use crate::record::Record;
 use component::{Component, Work};
@@ -41,15 +40,12 @@ pub(crate) fn split_up<const W: usize, L: Ledger>(
     work: &mut Work<W>,
     steps: &mut Steps<L>,
 ) -> Result<Vec<Record<W>>, NoMemory>
-    requires width { (1 ≤ W) × (W ≤ 64) }
-    requires few { limits.now.count ≤ 64 * W }
+    requires wide { IsWideFor W limits.now }
     requires total { length links.now.txs ≤ MAX_TOTAL }
     ensures split { IfOk result (λ all. IsSplit (closure links.now) [] all.items) }
     ensures fitted { IfOk result (λ all. All (IsFitted (64 * W) limits.now) all.items) }
     ensures components { IfOk result (λ all. AreComponents (closure links.now) [] (map (λ c. c.names) all.items)) }
-    ensures grew { steps.old ≤ steps.new }
-    ensures steps { (lists : List (List ℕ)) → AreComponents (closure links.now) [] lists
-        → steps.new ≤ steps.old + most_steps_fit_of limits.now (closure links.now) lists }
+    ensures steps { GrowsFor limits.now (closure links.now) [] steps.old steps.new }
 {
     let _txs = links.txs();
     let parts = links.components(alloc)?;
@@ -74,8 +70,7 @@ fn records_of<const W: usize, L: Ledger>(
     work: &mut Work<W>,
     steps: &mut Steps<L>,
 ) -> Result<Vec<Record<W>>, NoMemory>
-    requires width { (1 ≤ W) × (W ≤ 64) }
-    requires few { limits.now.count ≤ 64 * W }
+    requires wide { IsWideFor W limits.now }
     requires each { All IsOneComponent parts.items }
     ensures like { IfOk result (λ all. AreLike all.items parts.items) }
     ensures fitted { IfOk result (λ all. All (IsFitted (64 * W) limits.now) all.items) }

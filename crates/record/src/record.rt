@@ -10,7 +10,7 @@ ghost use Rattle.links.specs.Kept.{names_of};
 ghost use Rattle.links.specs.Closing.{closure};
 ghost use Rattle.record.specs.Kept.{unordered};
 ghost use Rattle.record.specs.Records.{IsConnected, IsFitted, IsLike, IsRecord, StaysFitted};
-ghost use Rattle.record.specs.Leaving.{IsOneComponent, MayLose};
+ghost use Rattle.record.specs.Leaving.{IsOneComponent, IsWideFor, MayLose};
 ghost use Rattle.record.specs.Steps.{most_steps_again, most_steps_fit, most_steps_fit_of, most_steps_within, total_size};
 ghost use Rattle.record.specs.Changes.{MayJoin};
 ghost use Rattle.graph_model.specs.declared.names.Limits as graph_limits;
@@ -299,8 +299,7 @@ impl<const W: usize> Record<W> {
         work: &mut Work<W>,
         steps: &mut Steps<L>,
     ) -> Result<Record<W>, NoMemory>
-        requires width { (1 ≤ W) × (W ≤ 64) }
-        requires few { limits.now.count ≤ 64 * W }
+        requires wide { IsWideFor W limits.now }
         requires one { IsOneComponent links }
         ensures same { IfOk result (λ r. IsLike r (unordered links)) }
         ensures fitted { IfOk result (IsFitted (64 * W) limits.now) }

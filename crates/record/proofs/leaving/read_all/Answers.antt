@@ -9,7 +9,8 @@ pub loop-at-preserved : goal.loop-at-preserved
 loop-at-preserved c part here = elim (
     Contains-push_cases (take c.loop-at.at c.args.parts.now) c.index-parts-at.result part
     (subst (λ (ps : List Links). Contains ps part)
-    (take_more c.args.parts.now c.loop-at.at c.index-parts-at.result c.loop-at-test.true ∙ ap (λ (p : Links). take c.loop-at.at c.args.parts.now ++ p ∷ []) (sym c.index-parts-at.is)) here)
+    (take_more c.args.parts.now c.loop-at.at c.index-parts-at.result c.loop-at-test.true
+    ∙ ap (λ (p : Links). take c.loop-at.at c.args.parts.now ++ p ∷ []) (sym c.index-parts-at.is)) here)
     ) [
       | inl before ↦ c.loop-at.invariant part before
       | inr same ↦ subst AreLinks same c.txs-txs.ensures.whole

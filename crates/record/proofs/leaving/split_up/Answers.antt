@@ -17,10 +17,7 @@ records_of-requires g c =
       lit< tt,
       (
         lit< tt,
-        (
-          c.requires.width,
-          (c.requires.few, parts_fine c.args.links.now parts c.txs-txs.ensures.whole each c.in_ok-parts.ensures c.requires.total),
-        ),
+        (c.requires.wide, parts_fine c.args.links.now parts c.txs-txs.ensures.whole each c.in_ok-parts.ensures c.requires.total),
       ),
     )
 
@@ -46,5 +43,8 @@ returns-clause-steps g c =
     let parts = c.in_ok-parts.parts.items in
     let each : (part : Links) → Contains parts part → AreLinks part =
     λ part here. c.read_all.ensures part (subst (λ (ps : List Links). Contains ps part) (sym c.as_slice.ensures.value) here) in
-    fallen_steps c.args.links.now parts c.txs-txs.ensures.whole each c.in_ok-parts.ensures c.args.limits.now c.args.steps.now c.records_of.new.steps
-    c.records_of.ensures.steps.few
+    record {
+      grew = c.records_of.ensures.steps.grew;
+      few = fallen_steps c.args.links.now parts c.txs-txs.ensures.whole each c.in_ok-parts.ensures c.args.limits.now c.args.steps.now c.records_of.new.steps
+          c.records_of.ensures.steps.few;
+    }

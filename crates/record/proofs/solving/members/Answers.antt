@@ -19,4 +19,6 @@ loop-at-preserved g c =
     (fee_read c.args.txs.now c.requires.links.in_range c.loop-at.at c.loop-at-test.true)
 
 pub returns : goal.returns
-returns g c = alone_stands c.args.txs.now c.loop-at.at c.loop-at.dep c.requires.links.graph_is.names (omega (arith, c.loop-at-test.false, c.loop-at.auto.at-end)) c.loop-at.invariant
+returns g c =
+    alone_stands c.args.txs.now c.loop-at.at c.loop-at.dep c.requires.links.graph_is.names
+    (omega (arith, c.loop-at-test.false, c.loop-at.auto.at-end)) c.loop-at.invariant

@@ -63,12 +63,9 @@ split_up-requires g c =
       (
         lit< tt,
         (
-          (c.self.invariant.0, c.self.invariant.1),
-          (
-            c.requires.few,
-            lost_few c.args.self.now old left c.args.names.now held.links is c.txs-left.ensures.whole c.in_ok-left-in-Over.ensures.txs
-                c.in_ok-left-in-Over.ensures.ancestors MAX_TOTAL c.requires.total,
-          ),
+          (c.self.invariant.0, c.self.invariant.1, c.requires.few),
+          lost_few c.args.self.now old left c.args.names.now held.links is c.txs-left.ensures.whole c.in_ok-left-in-Over.ensures.txs
+              c.in_ok-left-in-Over.ensures.ancestors MAX_TOTAL c.requires.total,
         ),
       ),
     )
@@ -102,4 +99,4 @@ returns-in_ok-left-in-Over-clause-steps g c =
     let is = over_is c.self.inside.kept c.in-Over.over c.deref.result.now c.args.self.now c.in-Over.is c.deref.ensures c.self.view_is in
     let left = c.in_ok-left-in-Over.left in
     lost_steps c.args.self.now old left c.args.names.now held.links is c.txs-left.ensures.whole c.in_ok-left-in-Over.ensures.txs
-    c.in_ok-left-in-Over.ensures.ancestors c.args.limits.now c.args.steps.now c.split_up.new.steps c.split_up.ensures.steps
+    c.in_ok-left-in-Over.ensures.ancestors c.args.limits.now c.args.steps.now c.split_up.new.steps c.split_up.ensures.steps.few
