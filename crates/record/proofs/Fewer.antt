@@ -1,7 +1,7 @@
 -- Some names of a component within the limits are within them too.
-use Rattle.std.proofs.Common.{◌≡◌, ℕ, ◌+◌, ◌≤◌, ◌||◌, Bool, false, cond, List, length, map, Contains, inl, inr, ap, ap₂, le-ltb, arith}
+use Rattle.std.proofs.Common.{◌≡◌, ℕ, ◌+◌, ◌≤◌, ◌||◌, Bool, false, cond, List, length, map, Contains, inl, inr, ap, ap₂, le-ltb, arith, ◌↔◌, ◌⊎◌, ◌<◌, true, nat_lt, lt-ltb}
 use Rattle.std.specs.Prelude.{All, sum_by}
-use Rattle.std.proofs.lemmas.Bool.{cases_lt}
+use Rattle.std.proofs.lemmas.Bool.{cases_lt, or_cases, or_left, or_right, ltb-true}
 use Rattle.std.proofs.lemmas.List.Elements.{All-weaker, All-contains_itself, All-contains}
 use Rattle.arithmetic.proofs.Sums.{sum_by_along}
 use Rattle.lists.specs.Distinct.{AreDistinct}
@@ -22,6 +22,18 @@ use Rattle.record.proofs.Ordered.{has_parts}
 -- the test says what it is to be over the limits
 pub not_over : (limits : Limits) (count size : ℕ) → count ≤ limits.count → size ≤ limits.size → is_over limits count size ≡ false
 not_over limits count size few small = ap₂ (λ (b c : Bool). b || c) (le-ltb limits.count count few) (le-ltb limits.size size small)
+
+pub over_tells : (limits : Limits) (count size : ℕ) → (is_over limits count size ≡ true) ↔ ((limits.count < count) ⊎ (limits.size < size))
+over_tells limits count size = (
+  (λ e. elim (or_cases (nat_lt limits.count count) (nat_lt limits.size size) e) [
+    | inl many ↦ inl (ltb-true limits.count count many)
+    | inr large ↦ inr (ltb-true limits.size size large)
+  ]),
+  (λ more. elim more [
+    | inl many ↦ or_left (nat_lt limits.count count) (nat_lt limits.size size) (lt-ltb limits.count count many)
+    | inr large ↦ or_right (nat_lt limits.count count) (nat_lt limits.size size) (lt-ltb limits.size size large)
+  ]),
+)
 
 pub within_steps : (limits : Limits) (count size : ℕ) → count ≤ limits.count → size ≤ limits.size
     → most_steps_within limits count size ≡ most_steps count
