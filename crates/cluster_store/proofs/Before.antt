@@ -8,7 +8,7 @@ use Rattle.std.proofs.lemmas.Simd.{map-map}
 use Rattle.std.specs.declared.cmp.Ordering.TheVariants.{Less}
 use Rattle.std.specs.List.{slice_index_or}
 use Rattle.std.specs.FinMap as finmap
-use Rattle.lists.proofs.Entries.{Contains-head, Contains-cases, Contains-filter, Contains-map, Contains-splits}
+use Rattle.lists.proofs.Entries.{none_in_empty, Contains-head, Contains-cases, Contains-filter, Contains-map, Contains-splits}
 use Rattle.graphs.proofs.MergeLemmas.{precedes_filter, flat_stands, stands_within, stands_apart}
 use Rattle.graphs.specs.declared.names.Level.{Level}
 use Rattle.graphs.specs.Certificates.{Part}
@@ -125,8 +125,10 @@ module _ (most : ℕ) (level : Level) (store : Store) (is : IsStore most store) 
 
     -- without parts there is no place
     none_sorted : c.parts ≡ [] → IsInOrder (key_at store.clusters) own
-    unfolding own IsInOrder
-    none_sorted none = subst (λ (ps : List Part). IsInOrder (key_at store.clusters) (places_from n 0 ps)) (sym (of_cluster ∙ none)) tt
+    unfolding own
+    none_sorted none =
+        subst (λ (ps : List Part). IsInOrder (key_at store.clusters) (places_from n 0 ps)) (sym (of_cluster ∙ none))
+        (places_in_order store.clusters n 0 [] (λ j low. absurd (omega (arith, low))) tt (λ p here. absurd (none_in_empty p here)))
 
     own_sorted : IsInOrder (key_at store.clusters) own
     own_sorted = by c.parts refl

@@ -20,8 +20,8 @@ use Rattle.cluster_store.specs.Kept.{Slots, at, shelved, IsShown, IsKept}
 use Rattle.cluster_store.specs.Tops.{Exchanged, seen_at}
 use Rattle.cluster_store.specs.Unordered.{HasUnordered, IsUnordered}
 use Rattle.cluster_store.proofs.Changed.{lowest_in_le, lowest_in_each}
-use Rattle.cluster_store.proofs.Listed.{at_found}
-use Rattle.cluster_store.proofs.Seen.{seen_is, seen_stored}
+use Rattle.cluster_store.proofs.Listed.{at_found, at_some}
+use Rattle.cluster_store.proofs.Seen.{in_top, seen_is, seen_stored}
 use Rattle.cluster_store.proofs.Shelves.{get_shelved}
 
 -- a cluster came in, or stood there before
@@ -86,6 +86,18 @@ unordered_came staged outs made news old new x n (s, is, none) =
       | inr before ↦
           inr (before.0, sym (get_shelved old n) ∙ before.1, ap (λ (c : Cluster). c.parts) before.2 ∙ none)
     ]
+
+-- what stands where clusters came in is one of these
+pub unordered_made : (staged : Bool) (outs made : List ℕ) (news : List Cluster) (old new : Slots) → Exchanged staged outs made news (shelved old) (shelved new)
+    → (n : ℕ) → Contains made n → IsUnordered (at new n) → HasUnordered news
+unordered_made staged outs made news old new x n here (s, is, none) =
+    let t = in_top (shelved new) n (at_some (seen_at Top (shelved new)) made news n x.top.stand here) in
+    let seen = seen_stored Top (shelved new) n t.stored t.is t.top in
+    let same : s ≡ t.stored = same_Some s t.stored (sym (get_shelved new n ∙ is) ∙ t.is) in (
+      t.stored.cluster,
+      at_found (seen_at Top (shelved new)) made news n t.stored.cluster x.top.stand here seen,
+      ap (λ (u : Stored). u.cluster.parts) (sym same) ∙ none,
+    )
 
 -- where clusters take the places of others, those without an order do, or stood there before without one
 pub unordered_exchanged : (exchanged : List Exchange) (old new : Slots) → ExchangesAll exchanged old new

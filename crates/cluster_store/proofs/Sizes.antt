@@ -2,6 +2,7 @@
 use Rattle.std.proofs.Common.{ℕ, ◌≤◌, lit<}
 use Rattle.std.specs.Mem.{FitsInMemory}
 use Rattle.record.specs.contracts.record.Record as kept
+use Rattle.component.specs.contracts.component.Component as component
 use Rattle.cluster_store.specs.contracts.stored.Exchange as exchange
 use Rattle.cluster_store.specs.contracts.stored.Stored as stored
 use denote.Param.{param, number}
@@ -21,3 +22,6 @@ exchange_fits w narrow = lit< tt
 
 pub cluster_fits : (w : ℕ) → w ≤ 64 → FitsInMemory (kept.the_row (param 0 (number w)))
 cluster_fits w narrow = lit< tt
+
+pub component_fits : (w : ℕ) → w ≤ 64 → FitsInMemory (component.the_row (param 0 (number w)))
+component_fits w narrow = lit< tt

@@ -10,8 +10,8 @@ ghost use Rattle.cluster_store.specs.Slots.{AddsOne, AddsTo, AreOut, AreStored, 
 use crate::entries::{enter, entry_of, leave, retag};
 use crate::stored::{Exchange, Stored};
 use chunk_index::{ChunkIndex, Entry, Tag};
-use record::Record;
 use outside::NoMemory;
+use record::Record;
 use slab::Slab;
 use std::alloc::Global;
 

@@ -6,9 +6,9 @@ ghost use Rattle.cluster_store.specs.Kept.{AreListed, found, fresh, is_rate, par
 ghost use Rattle.cluster_store.specs.Keys.{key_part};
 
 use chunk_index::{ChunkIndex, Entry, Tag};
-use record::Record;
 use fee_rate::FeeRate;
 use outside::NoMemory;
+use record::Record;
 
 /// The entry of the part at a position of a cluster.
 pub fn entry_of<const W: usize>(number: usize, cluster: &Record<W>, at: usize) -> Entry

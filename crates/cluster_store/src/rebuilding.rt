@@ -8,8 +8,8 @@ ghost use Rattle.cluster_store.specs.Tops.{Exchanged, MainKeeps, MayLeave, TopCh
 use crate::clusters::{add, add_clusters, at, exchange, make_move, take_all};
 use crate::stored::{Exchange, Made, Stored};
 use chunk_index::{ChunkIndex, Tag};
-use record::Record;
 use outside::NoMemory;
+use record::Record;
 use slab::Slab;
 use std::alloc::Global;
 

@@ -99,7 +99,9 @@ fn tag_left(stays: Level, tag: Tag) -> Option<Tag>
     ensures { result ≡ settled_to stays tag }
 {
     match (stays, tag) {
-        (_, Tag::Both) | (Level::Main, Tag::MainOnly) | (Level::Top, Tag::TopOnly) => Some(Tag::Both),
+        (_, Tag::Both) | (Level::Main, Tag::MainOnly) | (Level::Top, Tag::TopOnly) => Some(
+            Tag::Both,
+        ),
         (Level::Main, Tag::TopOnly) | (Level::Top, Tag::MainOnly) => None,
     }
 }

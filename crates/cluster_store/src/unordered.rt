@@ -43,11 +43,7 @@ pub fn lacks_order<const W: usize>(
 }
 
 // Whether the number has one that stands in a level.
-fn stands_unordered<const W: usize>(
-    slots: &Slab<Stored<W>>,
-    number: usize,
-    level: Level,
-) -> bool
+fn stands_unordered<const W: usize>(slots: &Slab<Stored<W>>, number: usize, level: Level) -> bool
     ensures { IsTrue result ↔ LacksOrderIn level (get slots.now number) }
 {
     match slots.get(number) {
@@ -124,11 +120,7 @@ pub fn list_made<const W: usize>(
 }
 
 // Lists numbers whose clusters have no order. Takes no memory.
-fn list_all<const W: usize>(
-    slots: &Slab<Stored<W>>,
-    over: &mut IndexSet<usize>,
-    numbers: &[usize],
-)
+fn list_all<const W: usize>(slots: &Slab<Stored<W>>, over: &mut IndexSet<usize>, numbers: &[usize])
     requires { HasRoomFor (length numbers.now) over.old slots.now.slots numbers.now }
     ensures others { (n : ℕ) → contains nat_eq over.old n ≡ true → contains nat_eq over.new n ≡ true }
     ensures listed { (n : ℕ) → Contains numbers.now n → IsUnordered (get slots.now n) → contains nat_eq over.new n ≡ true }

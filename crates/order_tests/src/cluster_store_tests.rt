@@ -6,6 +6,7 @@ use cluster_store::{ClusterStore, Exchange, Made, PartWalk, Stored};
 use component::{Component, Work};
 use fee_rate::{FeeRate, is_rate};
 use graphs::{Level, TxId};
+use record::Record;
 use std::alloc::Global;
 use std::marker::Brand;
 use std::process::Abort;
@@ -92,11 +93,12 @@ fn made<L: Ledger>(
     room: &mut Room,
     steps: &mut Steps<L>,
     row: &((TxId, i64), Option<(TxId, i64)>),
-) -> Result<Component<1>, Fail> {
-    match row.1 {
-        Some(child) => pair(rt, room, steps, row.0, child),
-        None => alone(rt, room, steps, row.0.0, row.0.1, 1),
-    }
+) -> Result<Record<1>, Fail> {
+    let made = match row.1 {
+        Some(child) => pair(rt, room, steps, row.0, child)?,
+        None => alone(rt, room, steps, row.0.0, row.0.1, 1)?,
+    };
+    Ok(Record::within(made))
 }
 
 // ---- the table
@@ -108,7 +110,7 @@ struct Table {
     alloc: Global,
     store: ClusterStore<1>,
     numbers: Vec<usize>,
-    clusters: Vec<Component<1>>,
+    clusters: Vec<Record<1>>,
 }
 
 // What a row does. Clusters are told by when they came.
@@ -128,7 +130,7 @@ enum Act {
     Settle(Level),
 }
 
-fn next(rt: &impl Abort, table: &mut Table) -> Component<1> {
+fn next(rt: &impl Abort, table: &mut Table) -> Record<1> {
     match table.clusters.pop() {
         Some(cluster) => cluster,
         None => panic!(rt; "no cluster is left"),
@@ -136,7 +138,7 @@ fn next(rt: &impl Abort, table: &mut Table) -> Component<1> {
 }
 
 // So many clusters.
-fn some(rt: &impl Abort, table: &mut Table, count: usize) -> Result<Vec<Component<1>>, Fail> {
+fn some(rt: &impl Abort, table: &mut Table, count: usize) -> Result<Vec<Record<1>>, Fail> {
     let mut clusters = Vec::new(table.alloc);
     for _ in 0..count {
         clusters.push(next(rt, table))?;
@@ -334,7 +336,7 @@ fn fill<L: Ledger>(
     rt: &impl Abort,
     room: &mut Room,
     steps: &mut Steps<L>,
-    clusters: &mut Vec<Component<1>>,
+    clusters: &mut Vec<Record<1>>,
 ) -> Result<(), Fail> {
     for row in &CLUSTERS {
         clusters.push(made(rt, room, steps, row)?)?;

@@ -13,3 +13,12 @@ pub mod Likeness
 pub mod Together
 pub mod Priced
 pub mod Lone
+pub mod Standing
+pub mod Solved
+pub mod Pieces
+pub mod Falling
+pub mod Losing
+pub mod Fewer
+pub mod Following
+pub mod Sized
+pub mod Lost

@@ -4,11 +4,8 @@ use Rattle.std.specs.Prelude.{Contains}
 use Rattle.graphs.specs.Closures.{Closure}
 use Rattle.cluster.specs.Clusters.{Cluster, AreApart}
 use Rattle.cluster.specs.Changes.{AreAcross, Joins}
-use Rattle.record.specs.Records.{IsConnected}
+use Rattle.record.specs.Records.{IsConnected, IsLike}
 use Rattle.record.specs.Changes.{AreJoined}
-
-abbrev pub IsLike : Cluster → Cluster → Type 0
-IsLike c d = (c.names ≡ d.names) × (c.graph ≡ d.graph)
 
 pub like_same : (c d : Cluster) → c ≡ d → IsLike c d
 like_same c d same = (ap (λ (x : Cluster). x.names) same, ap (λ (x : Cluster). x.graph) same)

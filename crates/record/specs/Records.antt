@@ -35,3 +35,7 @@ pub record IsFitted (most : ℕ) (limits : Limits) (c : Cluster) : Type 0 where
 -- Where the one suits some limits, the other does: neither comes over them, nor back within them.
 abbrev pub StaysFitted : ℕ → Cluster → Cluster → Type 0
 StaysFitted most old new = (limits : Limits) → IsFitted most limits old → IsFitted most limits new
+
+-- The same names and the same graph, whatever the parts are.
+abbrev pub IsLike : Cluster → Cluster → Type 0
+IsLike c d = (c.names ≡ d.names) × (c.graph ≡ d.graph)

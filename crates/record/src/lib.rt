@@ -12,8 +12,10 @@
 
 mod joining;
 mod kept;
+mod leaving;
 mod over;
 mod parts;
 mod record;
+mod solving;
 
 pub use record::Record;

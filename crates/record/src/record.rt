@@ -1,19 +1,24 @@
-ghost use Rattle.std.specs.Prelude.{◌≡◌, ◌≢◌, ℕ, ◌+◌, ◌*◌, ◌<◌, ◌≤◌, ◌++◌, [], true, false, length, slice_index, sum_by, Contains, IfOk, MatchOption};
+ghost use Rattle.std.specs.Prelude.{◌≡◌, ◌≢◌, ℕ, ◌+◌, ◌*◌, ◌<◌, ◌≤◌, ◌++◌, [], true, false, List, length, map, slice_index, sum_by, All, Contains, IfOk, MatchOption};
 ghost use Rattle.fee_rate.specs.Limits.{IsFee, IsRate};
 ghost use Rattle.fee_rate.specs.declared.limits.TheConstants.{MAX_SIZE, MAX_TOTAL};
 ghost use Rattle.graphs.specs.Closures.{is_ancestor, rate_of, AddsPair, SetsFee};
 ghost use Rattle.cluster.specs.Clusters.{IsCluster};
-ghost use Rattle.cluster.specs.Changes.{IsSingle, Joins};
+ghost use Rattle.cluster.specs.Changes.{AreComponents, IsSingle, IsSplit, Joins};
 ghost use Rattle.cluster.specs.Steps.{GrowsWithin, most_steps};
 ghost use Rattle.links.specs.Links.{AreInRange, AreLinks};
 ghost use Rattle.links.specs.Kept.{names_of};
+ghost use Rattle.links.specs.Closing.{closure};
 ghost use Rattle.record.specs.Kept.{unordered};
-ghost use Rattle.record.specs.Records.{IsConnected, IsFitted, IsRecord, StaysFitted};
+ghost use Rattle.record.specs.Records.{IsConnected, IsFitted, IsLike, IsRecord, StaysFitted};
+ghost use Rattle.record.specs.Leaving.{IsOneComponent, IsWideFor, MayLose};
+ghost use Rattle.record.specs.Steps.{most_steps_again, most_steps_fit, most_steps_fit_of, most_steps_within, total_size};
 ghost use Rattle.record.specs.Changes.{MayJoin};
 ghost use Rattle.graph_model.specs.declared.names.Limits as graph_limits;
 
 use crate::joining::{are_over, joined_over};
 use crate::kept::{Kept, Unordered};
+use crate::leaving::{all_within, split_up};
+use crate::solving::{ordered, place_of};
 use component::{Component, Work};
 use fee_rate::FeeRate;
 use graph_model::Limits;
@@ -71,7 +76,7 @@ impl<const W: usize> Record<W> {
     }
 
     /// Makes the record in which `child` depends on `parent`. Both are names of this record, which stays as it is. Neither comes over a
-    /// limit by it. Where it has an order, for n names the solver takes at most 2·(n+2)^5 steps.
+    /// limit by it. Where it has an order, for n names the solver takes at most 2·(n+2)^5 steps, and else none.
     pub fn linked<L: Ledger>(
         &self,
         alloc: Global,
@@ -85,7 +90,7 @@ impl<const W: usize> Record<W> {
         ensures names { IfOk result (λ r. r.names ≡ self.now.names) }
         ensures graph { IfOk result (λ r. AddsPair self.now.graph r.graph parent child) }
         ensures fitted { IfOk result (StaysFitted (64 * W) self.now) }
-        ensures steps { GrowsWithin (most_steps (length self.now.names)) steps.old steps.new }
+        ensures steps { GrowsWithin (most_steps_again self.now) steps.old steps.new }
     {
         match &self.kept {
             Kept::Within(component) => {
@@ -100,7 +105,7 @@ impl<const W: usize> Record<W> {
     }
 
     /// Makes the record in which a name of this one has this fee, in satoshis. This record stays as it is. Where it has an order, for n
-    /// names the solver takes at most 2·(n+2)^5 steps.
+    /// names the solver takes at most 2·(n+2)^5 steps, and else none.
     pub fn with_fee<L: Ledger>(
         &self,
         alloc: Global,
@@ -114,7 +119,7 @@ impl<const W: usize> Record<W> {
         ensures names { IfOk result (λ r. r.names ≡ self.now.names) }
         ensures graph { IfOk result (λ r. SetsFee self.now.graph r.graph id fee) }
         ensures fitted { IfOk result (StaysFitted (64 * W) self.now) }
-        ensures steps { GrowsWithin (most_steps (length self.now.names)) steps.old steps.new }
+        ensures steps { GrowsWithin (most_steps_again self.now) steps.old steps.new }
     {
         match &self.kept {
             Kept::Within(component) => {
@@ -146,7 +151,8 @@ impl<const W: usize> Record<W> {
         ensures names { IfOk result (λ r. r.names ≡ self.now.names ++ other.now.names) }
         ensures graph { IfOk result (λ r. Joins self.now.graph other.now.graph parent child r.graph) }
         ensures fitted { IfOk result (IsFitted (64 * W) limits.now) }
-        ensures steps { GrowsWithin (most_steps (length self.now.names + length other.now.names)) steps.old steps.new }
+        ensures steps { GrowsWithin (most_steps_within limits.now (length self.now.names + length other.now.names)
+            (total_size self.now.graph self.now.names + total_size other.now.graph other.now.names)) steps.old steps.new }
     {
         let count = (self.names().len() + other.names().len()) as u64;
         if are_over(limits, count, self.size() + other.size()) {
@@ -163,6 +169,38 @@ impl<const W: usize> Record<W> {
         Ok(Record::within(joined))
     }
 
+    /// Makes the records that are left without some of the names: one for each component of the others, which keep the ancestors that they
+    /// had among them. This record stays as it is. Each that is within the limits has its order, and each that is over them has none. For
+    /// those within the limits the solver takes at most the sum of 2·(n+2)^5 steps over components of n names, and for the others none.
+    pub fn without<L: Ledger>(
+        &self,
+        alloc: Global,
+        names: &[TxId],
+        limits: &Limits,
+        work: &mut Work<W>,
+        steps: &mut Steps<L>,
+    ) -> Result<Vec<Record<W>>, NoMemory>
+        requires { MayLose (64 * W) limits.now self.now names.now }
+        ensures split { IfOk result (λ left. IsSplit self.now.graph names.now left.items) }
+        ensures fitted { IfOk result (λ left. All (IsFitted (64 * W) limits.now) left.items) }
+        ensures components { IfOk result (λ left. AreComponents self.now.graph names.now (map (λ c. c.names) left.items)) }
+        ensures grew { steps.old ≤ steps.new }
+        ensures steps { (lists : List (List ℕ)) → AreComponents self.now.graph names.now lists
+            → steps.new ≤ steps.old + most_steps_fit_of limits.now self.now.graph lists }
+    {
+        match &self.kept {
+            Kept::Within(component) => {
+                let left = component.without(alloc, names, work, steps)?;
+                all_within(alloc, left.into_vec())
+            }
+            Kept::Over(over) => {
+                let left = over.links.without(alloc, names)?;
+                let _left = left.txs();
+                split_up(alloc, &left, limits, work, steps)
+            }
+        }
+    }
+
     /// Whether `a` is an ancestor of `b`. Both are names of this record, and each is an ancestor of itself. Takes no memory.
     pub fn reaches(&mut self, a: TxId, b: TxId) -> bool
         requires { Contains self.old.names a × Contains self.old.names b }
@@ -172,6 +210,17 @@ impl<const W: usize> Record<W> {
         match &mut self.kept {
             Kept::Within(component) => component.reaches(a, b),
             Kept::Over(over) => over.links.reaches(a, b),
+        }
+    }
+
+    /// The fee of a name, in satoshis, and its size, in virtual bytes.
+    pub fn rate(&self, id: TxId) -> FeeRate
+        requires { Contains self.now.names id }
+        ensures { result ≡ rate_of self.now.graph id }
+    {
+        match &self.kept {
+            Kept::Within(component) => component.rate(id),
+            Kept::Over(over) => self.rate_at(place_of(over.names.as_slice(), id)),
         }
     }
 
@@ -222,6 +271,48 @@ impl<const W: usize> Record<W> {
         }
     }
 
+    // Of links that are one component, with an order of at most 64·W names. For n names the solver takes at most 2·(n+2)^5 steps.
+    pub(crate) fn of_links<L: Ledger>(
+        alloc: Global,
+        links: &Links,
+        work: &mut Work<W>,
+        steps: &mut Steps<L>,
+    ) -> Result<Record<W>, NoMemory>
+        requires width { (1 ≤ W) × (W ≤ 64) }
+        requires few { length links.now.txs ≤ 64 * W }
+        requires connected { IsConnected (unordered links.now) }
+        ensures same { IfOk result (λ r. IsLike r (unordered links.now)) }
+        ensures whole { IfOk result (IsCluster (64 * W)) }
+        ensures steps { GrowsWithin (most_steps (length links.now.txs)) steps.old steps.new }
+    {
+        let names = names_of(alloc, links.txs())?;
+        let dep = ordered(alloc, names.as_slice(), links.txs(), links.pairs())?;
+        let component = Component::whole(alloc, names.as_slice(), &dep, work, steps)?;
+        Ok(Record::within(component))
+    }
+
+    // Of links that are one component: with an order where they are within the limits, and else without.
+    pub(crate) fn of_component<L: Ledger>(
+        alloc: Global,
+        links: Links,
+        limits: &Limits,
+        work: &mut Work<W>,
+        steps: &mut Steps<L>,
+    ) -> Result<Record<W>, NoMemory>
+        requires wide { IsWideFor W limits.now }
+        requires one { IsOneComponent links }
+        ensures same { IfOk result (λ r. IsLike r (unordered links)) }
+        ensures fitted { IfOk result (IsFitted (64 * W) limits.now) }
+        ensures steps { GrowsWithin (most_steps_fit limits.now (closure links) (names_of links.txs)) steps.old steps.new }
+    {
+        let count = links.txs().len() as u64;
+        let size = size_of(links.txs());
+        if are_over(limits, count, size) {
+            return Record::over(alloc, links);
+        }
+        Record::of_links(alloc, &links, work, steps)
+    }
+
     // Of links over the limits.
     pub(crate) fn over(alloc: Global, links: Links) -> Result<Self, NoMemory>
         requires wide { 1 ≤ W }
@@ -249,7 +340,7 @@ impl<const W: usize> Record<W> {
 }
 
 // The names of transactions.
-fn names_of(alloc: Global, txs: &[(TxId, i64, u64)]) -> Result<Vec<TxId>, NoMemory>
+pub(crate) fn names_of(alloc: Global, txs: &[(TxId, i64, u64)]) -> Result<Vec<TxId>, NoMemory>
     ensures { IfOk result (λ names. names.items ≡ names_of txs.now) }
 {
     let mut names = Vec::with_capacity(alloc, txs.len())?;

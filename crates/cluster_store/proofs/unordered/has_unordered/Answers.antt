@@ -1,8 +1,8 @@
 -- One cluster more has an order, or has none.
-use Rattle.std.proofs.Common.{◌≡◌, [], length, refl, true≢false, sym, ap, ◌∙◌, subst}
+use Rattle.std.proofs.Common.{◌≡◌, [], length, refl, true≢false, sym, ap, ◌∙◌}
 use Rattle.cluster.specs.Clusters.{Cluster}
 use Rattle.cluster_store.proofs.Done.{no_items}
-use Rattle.cluster_store.proofs.Lacking.{all_of, counts_none, none_counted, none_yet, one_more}
+use Rattle.cluster_store.proofs.Lacking.{all_of, none_yet, one_more}
 use Rattle.cluster_store.proofs.unordered.has_unordered.Goals as goal
 
 pub loop-at-init : goal.loop-at-init
@@ -25,5 +25,8 @@ loop-at-preserved g c =
     (c.part_count.ensures ∙ ap (λ (d : Cluster). length d.parts) c.index-clusters-at.is ∙ ap length none))
 
 pub returns : goal.returns
-returns g c = (λ none. absurd (true≢false (sym none)), λ (d, here, none). absurd (all_of (λ (d : Cluster). d.parts ≡ [] → ⊥) c.args.clusters.now c.loop-at.at c.loop-at-test.false
-    c.loop-at.invariant d here none))
+returns g c = (
+  λ none. absurd (true≢false (sym none)),
+  λ (d, here, none). absurd (all_of (λ (d : Cluster). d.parts ≡ [] → ⊥) c.args.clusters.now c.loop-at.at c.loop-at-test.false
+      c.loop-at.invariant d here none),
+)

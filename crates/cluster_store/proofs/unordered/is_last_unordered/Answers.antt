@@ -1,5 +1,5 @@
 -- The last cluster is the only one of the list.
-use Rattle.std.proofs.Common.{List, [], ◌∷◌, Contains, sym, ap, ◌∙◌, subst}
+use Rattle.std.proofs.Common.{List, [], Contains, sym, ap, ◌∙◌, subst}
 use Rattle.std.specs.Prelude.{option_to_list}
 use Rattle.lists.proofs.Entries.{Contains-head, Contains-one}
 use Rattle.cluster.specs.Clusters.{Cluster}

@@ -1,5 +1,5 @@
 -- One number more is listed where it has to be.
-use Rattle.std.proofs.Common.{◌≡◌, ℕ, [], length, true, nat_eq, get_or, sym, ap, ◌∙◌, subst}
+use Rattle.std.proofs.Common.{◌≡◌, ℕ, [], length, true, nat_eq, get_or, sym, ap, ◌∙◌}
 use Rattle.indexmap.specs.IndexSet.{contains}
 use Rattle.cluster.specs.Clusters.{Cluster}
 use Rattle.cluster_store.specs.Stores.{Exchange}

@@ -1,8 +1,8 @@
 -- Those that came in are listed, as far as they have no order, and the others were.
-use Rattle.std.proofs.Common.{◌≡◌, ◌≤◌, ◌+◌, ◌++◌, ℕ, true, nat_eq, List, [], ◌∷◌, length, Contains, Some, None, inl, inr, sym, ap, ◌∙◌, subst, arith}
+use Rattle.std.proofs.Common.{◌≡◌, ◌≤◌, ◌+◌, ℕ, true, nat_eq, List, [], length, Contains, inl, inr, sym, ap, subst, arith}
 use Rattle.std.specs.Prelude.{option_to_list}
 use Rattle.std.proofs.lemmas.List.Elements.{Contains-append_cases, Contains-append_left, Contains-append_right}
-use Rattle.lists.proofs.Entries.{Contains-head, Contains-one, none_in_empty}
+use Rattle.lists.proofs.Entries.{Contains-head, Contains-one}
 use Rattle.indexmap.specs.IndexSet.{contains, spare as room_of}
 use Rattle.cluster_store.specs.Kept.{at}
 use Rattle.cluster_store.specs.Unordered.{IsUnordered}

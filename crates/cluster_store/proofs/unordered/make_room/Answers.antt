@@ -1,5 +1,5 @@
 -- None of them has no order.
-use Rattle.std.proofs.Common.{◌++◌, inl, inr, sym, true≢false}
+use Rattle.std.proofs.Common.{inl, inr, sym, true≢false}
 use Rattle.std.specs.Prelude.{option_to_list}
 use Rattle.std.proofs.lemmas.List.Elements.{Contains-append_cases}
 use Rattle.cluster_store.proofs.unordered.make_room.Goals as goal

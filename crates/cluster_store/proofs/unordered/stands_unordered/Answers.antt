@@ -1,5 +1,5 @@
 -- A cluster that has no part has no order.
-use Rattle.std.proofs.Common.{◌≡◌, Some, true, sym, ap, ◌∙◌}
+use Rattle.std.proofs.Common.{◌≡◌, true, sym, ap, ◌∙◌}
 use Rattle.chunk_index.specs.Items.{is_in}
 use Rattle.cluster.specs.Clusters.{Cluster}
 use Rattle.cluster_store.proofs.Lacking.{counts_none, none_counted, lacks_here, stands_in}

@@ -1,6 +1,4 @@
 -- those without an order are listed still, and those that are left stand there
-use Rattle.std.proofs.Common.{◌≤◌}
-use Rattle.indexmap.specs.IndexSet.{index_set_len}
 use Rattle.cluster_store.specs.Unordered.{ListsUnordered}
 use Rattle.cluster_store.proofs.unordered.tidy.Given as goal
 

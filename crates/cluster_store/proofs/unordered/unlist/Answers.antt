@@ -1,5 +1,5 @@
 -- Another number is listed as it was.
-use Rattle.std.proofs.Common.{◌≡◌, ℕ, true, false, nat_eq, sym, ap, ◌∙◌, subst, true≢false}
+use Rattle.std.proofs.Common.{◌≡◌, ℕ, false, nat_eq, sym, ◌∙◌, subst, true≢false}
 use Rattle.std.proofs.lemmas.Bool.{false_from_ne_true}
 use Rattle.std.specs.Cmp.{unsigned_Decides}
 use Rattle.cluster_store.specs.Kept.{at}

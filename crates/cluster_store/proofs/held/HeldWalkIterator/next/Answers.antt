@@ -3,7 +3,7 @@ use Rattle.std.proofs.Common.{List, ◌∷◌, map, sym, ap, ◌∙◌, subst, C
 use Rattle.lists.proofs.Entries.{Contains-head, Contains-later}
 use Rattle.chunk_index.specs.declared.entry.Entry.{Entry}
 use Rattle.cluster_store.specs.Held.{Held, held_at_entry}
-use Rattle.cluster_store.proofs.Sizes.{cluster_fits, stored_fits}
+use Rattle.cluster_store.proofs.Sizes.{component_fits, stored_fits}
 use Rattle.cluster_store.proofs.held.HeldWalkIterator.next.Goals as goal
 
 pub invariant_of-self-2 : goal.invariant_of-self-2
@@ -24,7 +24,7 @@ pub held-requires : goal.held-requires
 held-requires g c = (
   stored_fits g.row.W c.self.invariant.narrow,
   (
-    cluster_fits g.row.W c.self.invariant.narrow,
+    component_fits g.row.W c.self.invariant.narrow,
     c.self.invariant.parts c.in_ok-entry.entry (subst (λ (xs : List Entry). Contains xs c.in_ok-entry.entry)
         (sym c.in_ok-entry.ensures.steps) (Contains-head c.in_ok-entry.entry c.next.new.self)),
   ),

@@ -35,25 +35,25 @@ invariant_of-self g c = record {
   unordered = λ n is. c.in_err-list_exchanged.ensures.others n (c.self.invariant.unordered n is);
 }
 
-pub invariant_of-self-2 : goal.invariant_of-self-2
-invariant_of-self-2 g c = record {
+pub invariant_of-self-in_err-exchange_all : goal.invariant_of-self-in_err-exchange_all
+invariant_of-self-in_err-exchange_all g c = record {
   kept = kept_same g.row.W c.self.inside.slots.slots c.exchange_all.new.slots.slots c.self.inside.index c.exchange_all.new.index c.self.inside.least
       c.self.invariant.kept c.in_err-exchange_all.ensures.err c.in_err-exchange_all.ensures.shown;
   unordered = λ n is.
-      c.in_ok-list_exchanged.ensures.others n (c.self.invariant.unordered n (subst IsUnordered (sym (c.in_err-exchange_all.ensures.err n)) is));
+      c.in_ok-list_exchanged.ensures.others n (c.self.invariant.unordered n (subst IsUnordered (c.in_err-exchange_all.ensures.err n) is));
 }
 
 pub returns-in_err-exchange_all-clause-err : goal.returns-in_err-exchange_all-clause-err
 returns-in_err-exchange_all-clause-err g c =
-    on_err c.from_residual.result (store_same c.self.inside.slots.slots c.exchange_all.new.slots.slots c.self.inside.index c.exchange_all.new.index
+    on_err c.from_residual-in_err-exchange_all.result (store_same c.self.inside.slots.slots c.exchange_all.new.slots.slots c.self.inside.index c.exchange_all.new.index
     c.self.inside.least c.self.invariant.kept.shown c.in_err-exchange_all.ensures.shown c.in_err-exchange_all.ensures.err ∙ c.self.view_is)
 
 pub returns-in_err-exchange_all-clause-store : goal.returns-in_err-exchange_all-clause-store
 returns-in_err-exchange_all-clause-store g c =
-    kept_store g.row.W c.exchange_all.new.slots.slots c.exchange_all.new.index c.self.inside.least (invariant_of-self-2 g c).kept
+    kept_store g.row.W c.exchange_all.new.slots.slots c.exchange_all.new.index c.self.inside.least (invariant_of-self-in_err-exchange_all g c).kept
 
-pub invariant_of-self-3 : goal.invariant_of-self-3
-invariant_of-self-3 g c =
+pub invariant_of-self-2 : goal.invariant_of-self-2
+invariant_of-self-2 g c =
     let slots = c.self.inside.slots.slots in
     let news = map (λ (x : Exchange). x.cluster) c.args.exchanged.items in
     let least : c.lowest_exchanged-least.result ≡ lowest_in news c.self.inside.least =
@@ -80,7 +80,11 @@ returns-clause-exchanged g c =
     (ap (λ (s : Store). s.clusters) c.self.view_is) (sym c.begin_anew.ensures.clusters) c.in_ok-exchange_all.ensures.ok
 
 pub returns-in_err-exchange_all-clause-exchanged : goal.returns-in_err-exchange_all-clause-exchanged
-returns-in_err-exchange_all-clause-exchanged g c = IfOk-from_err c.from_residual.result _ c.from_residual.ensures.0
+returns-in_err-exchange_all-clause-exchanged g c = IfOk-from_err c.from_residual-in_err-exchange_all.result _ c.from_residual-in_err-exchange_all.ensures.0
 
 pub returns-in_err-exchange_all-clause-least : goal.returns-in_err-exchange_all-clause-least
-returns-in_err-exchange_all-clause-least g c = IfOk-from_err c.from_residual.result _ c.from_residual.ensures.0
+returns-in_err-exchange_all-clause-least g c = IfOk-from_err c.from_residual-in_err-exchange_all.result _ c.from_residual-in_err-exchange_all.ensures.0
+
+pub returns-in_err-list_exchanged-clause-store : goal.returns-in_err-list_exchanged-clause-store
+returns-in_err-list_exchanged-clause-store g c =
+    kept_store g.row.W c.self.inside.slots.slots c.self.inside.index c.self.inside.least c.self.invariant.kept

@@ -6,6 +6,7 @@ use Rattle.record.specs.Kept.{unordered}
 use Rattle.record.specs.Records.{StaysFitted}
 use Rattle.record.proofs.Keeping.{handed_with, no_way, over_held, over_is, within_held, within_is}
 use Rattle.record.proofs.Linking.{pair_fits, linked_connected, linked_graph, linked_fitted}
+use Rattle.record.proofs.Sized.{ordered_again}
 use Rattle.record.proofs.record.Record.linked.Goals as goal
 
 pub linked-requires-in-Over-clause-no_cycle : goal.linked-requires-in-Over-clause-no_cycle
@@ -57,3 +58,15 @@ returns-in_ok-linked-in-Over-clause-fitted g c =
     (λ are. linked_fitted c.args.self.now c.deref.result.now.links c.in_ok-linked-in-Over.linked c.args.parent c.args.child held.links
     (over_is c.self.inside.kept c.in-Over.over c.deref.result.now c.args.self.now c.in-Over.is c.deref.ensures c.self.view_is) held.connected
     c.in_ok-linked-in-Over.ensures.txs c.in_ok-linked-in-Over.ensures.pairs c.requires.ends.0 c.requires.ends.1 are (64 * g.row.W))
+
+pub returns-in_err-linked-in-Within-clause-steps : goal.returns-in_err-linked-in-Within-clause-steps
+returns-in_err-linked-in-Within-clause-steps g c =
+    let is = within_is c.self.inside.kept c.in-Within.component c.args.self.now c.in-Within.is c.self.view_is in
+    let was = within_held (64 * g.row.W) c.self.inside.kept c.in-Within.component c.args.self.now c.in-Within.is c.self.view_is c.self.invariant.2 in
+    ordered_again (64 * g.row.W) c.in-Within.component c.args.self.now is was c.args.steps.now c.linked.new.steps c.linked.ensures.steps
+
+pub returns-in_ok-linked-in-Within-clause-steps : goal.returns-in_ok-linked-in-Within-clause-steps
+returns-in_ok-linked-in-Within-clause-steps g c =
+    let is = within_is c.self.inside.kept c.in-Within.component c.args.self.now c.in-Within.is c.self.view_is in
+    let was = within_held (64 * g.row.W) c.self.inside.kept c.in-Within.component c.args.self.now c.in-Within.is c.self.view_is c.self.invariant.2 in
+    ordered_again (64 * g.row.W) c.in-Within.component c.args.self.now is was c.args.steps.now c.linked.new.steps c.linked.ensures.steps

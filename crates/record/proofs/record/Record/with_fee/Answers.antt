@@ -7,6 +7,7 @@ use Rattle.record.specs.Kept.{unordered}
 use Rattle.record.specs.Records.{StaysFitted}
 use Rattle.record.proofs.Keeping.{handed_with, over_held, over_is, within_held, within_is}
 use Rattle.record.proofs.Priced.{fee_fits, priced_connected, priced_graph, priced_fitted, priced_names_are}
+use Rattle.record.proofs.Sized.{ordered_again}
 use Rattle.record.proofs.record.Record.with_fee.Goals as goal
 
 pub over-requires : goal.over-requires
@@ -64,3 +65,15 @@ returns-in_ok-priced-in-Over-clause-fitted g c =
     (over_is c.self.inside.kept c.in-Over.over c.deref.result.now c.args.self.now c.in-Over.is c.deref.ensures c.self.view_is) held.connected
     (c.in_ok-priced-in-Over.ensures.txs ∙ fee_read c.args.id c.args.fee c.deref.result.now.links.txs c.ranges.fee)
     c.in_ok-priced-in-Over.ensures.pairs c.requires.id are (64 * g.row.W))
+
+pub returns-in_err-priced-in-Within-clause-steps : goal.returns-in_err-priced-in-Within-clause-steps
+returns-in_err-priced-in-Within-clause-steps g c =
+    let is = within_is c.self.inside.kept c.in-Within.component c.args.self.now c.in-Within.is c.self.view_is in
+    let was = within_held (64 * g.row.W) c.self.inside.kept c.in-Within.component c.args.self.now c.in-Within.is c.self.view_is c.self.invariant.2 in
+    ordered_again (64 * g.row.W) c.in-Within.component c.args.self.now is was c.args.steps.now c.with_fee.new.steps c.with_fee.ensures.steps
+
+pub returns-in_ok-priced-in-Within-clause-steps : goal.returns-in_ok-priced-in-Within-clause-steps
+returns-in_ok-priced-in-Within-clause-steps g c =
+    let is = within_is c.self.inside.kept c.in-Within.component c.args.self.now c.in-Within.is c.self.view_is in
+    let was = within_held (64 * g.row.W) c.self.inside.kept c.in-Within.component c.args.self.now c.in-Within.is c.self.view_is c.self.invariant.2 in
+    ordered_again (64 * g.row.W) c.in-Within.component c.args.self.now is was c.args.steps.now c.with_fee.new.steps c.with_fee.ensures.steps
