@@ -48,7 +48,8 @@ pub returns-clause-priced : goal.returns-clause-priced
 returns-clause-priced g c =
     let same = same_Some c.requires.there.0 c.at.result.now (sym c.requires.there.1 ∙ c.at.ensures) in
     subst (λ (x : Exchange). IsPriced g.row.W c.args.id c.args.fee x c.args.self.now) (sym c.new.ensures)
-    (subst (λ (k : Cluster). IsPriced g.row.W c.args.id c.args.fee (record { number = c.args.number; cluster = k }) c.args.self.now) (sym c.within.ensures) (record {
+    (subst (λ (k : Cluster). IsPriced g.row.W c.args.id c.args.fee (record { number = c.args.number; cluster = k }) c.args.self.now)
+    (sym c.within.ensures) (record {
       was = c.at.result.now;
       at = c.at.ensures;
       held = subst (λ (d : Cluster). Contains d.names c.args.id) same c.requires.there.2;
