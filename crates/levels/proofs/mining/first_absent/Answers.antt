@@ -1,5 +1,5 @@
 -- Main has one name more, or hasn't it.
-use Rattle.std.proofs.Common.{◌≡◌, ◌≤◌, ℕ, false, length, slice_index, arith}
+use Rattle.std.proofs.Common.{◌≡◌, ◌≤◌, false, length, slice_index, arith}
 use Rattle.std.specs.FinMap as finmap
 use Rattle.graphs.specs.declared.names.Level.TheVariants.{Main}
 use Rattle.graphs.specs.Closures.{is_member}

@@ -1,5 +1,5 @@
 -- What is left of the clusters comes in.
-use Rattle.std.proofs.Common.{◌≤◌, ℕ, List, sym, subst, arith}
+use Rattle.std.proofs.Common.{ℕ, List, sym, subst, arith}
 use Rattle.cluster_store.proofs.Results.{on_ok}
 use Rattle.levels.specs.Tops.{Comes, IsMade}
 use Rattle.levels.proofs.Dropping.{comes_left, drops_top}

@@ -1,5 +1,5 @@
 -- The rings follow what the shelf makes.
-use Rattle.std.proofs.Common.{◌≡◌, ◌≤◌, ℕ, List, None, rules, refl, sym, ap, ◌∙◌, subst, arith}
+use Rattle.std.proofs.Common.{◌≡◌, ℕ, List, None, rules, sym, ap, ◌∙◌, subst, arith}
 use Rattle.std.specs.FinSet as set
 use Rattle.levels.specs.Kept.{SuitsShelf}
 use Rattle.levels.specs.Rings.{Fewer, Ringed}

@@ -1,5 +1,5 @@
 -- One name more has none.
-use Rattle.std.proofs.Common.{rules, ◌≡◌, ◌<◌, length, slice_index_or, arith, ◌∙◌, take}
+use Rattle.std.proofs.Common.{◌<◌, length, arith, ◌∙◌}
 use Rattle.staging.specs.Maps.{top_of}
 use Rattle.levels.proofs.Pointing.{base_more}
 use Rattle.levels.proofs.Rebuilding.{loses_more}

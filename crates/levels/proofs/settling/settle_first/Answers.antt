@@ -1,5 +1,5 @@
 -- A touched name is dropped, or the names of its cluster are settled.
-use Rattle.std.proofs.Common.{◌≡◌, ◌*◌, ℕ, List, Some, sym, ap, subst, ◌∙◌}
+use Rattle.std.proofs.Common.{◌≡◌, ◌*◌, ℕ, List, sym, ap, subst, ◌∙◌}
 use Rattle.std.proofs.lemmas.Option.{same_Some}
 use Rattle.cluster.specs.Clusters.{Cluster}
 use Rattle.levels.specs.Settling.{SettlesAll}

@@ -1,5 +1,5 @@
 -- One name is dropped.
-use Rattle.std.proofs.Common.{◌≡◌, ℕ, true, sym, ap, ◌∙◌}
+use Rattle.std.proofs.Common.{ap, ◌∙◌}
 use Rattle.std.proofs.lemmas.Result.{on_ok_weaker}
 use Rattle.lists.proofs.Entries.{none_in_empty}
 use Rattle.graphs.specs.Closures.{is_member}

@@ -1,5 +1,5 @@
 -- Clusters take the places of others of the same names.
-use Rattle.std.proofs.Common.{◌≤◌, List, sym, ap, ◌∙◌, subst, arith, refl}
+use Rattle.std.proofs.Common.{◌≤◌, sym, ap, subst, arith, refl}
 use Rattle.std.proofs.lemmas.Result.{on_ok_weaker}
 use Rattle.cluster_store.specs.Changes.{ExchangesEach}
 use Rattle.cluster_store.specs.Stores.{Store}
@@ -7,7 +7,7 @@ use Rattle.levels.specs.Shelves.{IsInOrder, Shelf}
 use Rattle.levels.specs.Tops.{HaveSameNames}
 use Rattle.levels.proofs.Calls.{shelf_of}
 use Rattle.levels.proofs.Exchanging.{by_result, order_exchanged, same_numbers}
-use Rattle.levels.proofs.Rooms.{cluster_fits, exchange_fits}
+use Rattle.levels.proofs.Rooms.{exchange_fits}
 use Rattle.levels.proofs.shelves.Shelves.exchange.Given as given
 use Rattle.levels.proofs.shelves.Shelves.exchange.Goals as goal
 

@@ -1,9 +1,8 @@
 -- The store's bound of sizes is one of main's names.
-use Rattle.std.proofs.Common.{◌≤◌, arith, ap, subst}
+use Rattle.std.proofs.Common.{subst}
 use Rattle.graphs.specs.declared.names.Level.TheVariants.{Main}
 use Rattle.cluster_store.specs.Stores.{Store, IsLeast}
 use Rattle.levels.proofs.Clustered.{sizes_bounded}
-use Rattle.levels.proofs.Rooms.{stored_fits}
 use Rattle.levels.proofs.shelves.Shelves.least.Goals as goal
 
 pub returns : goal.returns

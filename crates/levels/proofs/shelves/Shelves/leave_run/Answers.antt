@@ -1,8 +1,8 @@
-use Rattle.std.proofs.Common.{◌≡◌, ◌≤◌, ◌*◌, ℕ, List, Contains, map, All, subst, subst₂, ◌∙◌, sym, ap, arith}
+use Rattle.std.proofs.Common.{◌≡◌, ◌≤◌, ℕ, List, Contains, subst, subst₂, ◌∙◌, sym, arith}
 use Rattle.std.proofs.lemmas.Result.{on_ok_weaker}
 use Rattle.std.proofs.lemmas.Option.{same_Some}
 use Rattle.cluster.specs.Changes.{AreComponents, IsSplit}
-use Rattle.cluster.specs.Clusters.{Cluster, IsCluster}
+use Rattle.cluster.specs.Clusters.{Cluster}
 use Rattle.levels.specs.Lefts.{Takes}
 use Rattle.levels.proofs.Partway.{names_of, run_held, run_seen, run_stored}
 use Rattle.levels.proofs.Rooms.{cluster_fits, work_fits}

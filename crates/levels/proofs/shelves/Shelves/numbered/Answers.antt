@@ -1,4 +1,4 @@
-use Rattle.std.proofs.Common.{List, ℕ, ◌+◌, take, sym, subst, arith}
+use Rattle.std.proofs.Common.{◌+◌, take, sym, subst, arith}
 use Rattle.levels.specs.Lefts.{AreNumbered}
 use Rattle.levels.proofs.Listed.{one_numbered}
 use Rattle.levels.proofs.shelves.Shelves.numbered.Goals as goal

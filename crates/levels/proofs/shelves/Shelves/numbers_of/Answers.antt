@@ -1,5 +1,5 @@
 -- The numbers that the levels have for a name.
-use Rattle.std.proofs.Common.{◌≡◌, Some, None, inl, inr, sym, ap, ◌∙◌, true≢false, is_some}
+use Rattle.std.proofs.Common.{Some, inl, inr, sym, ap, ◌∙◌}
 use Rattle.graphs.specs.declared.names.Level.TheVariants.{Main, Top}
 use Rattle.levels.proofs.Fees.{numbers_apart, numbers_none, numbers_one}
 use Rattle.levels.proofs.shelves.Shelves.numbers_of.Goals as goal

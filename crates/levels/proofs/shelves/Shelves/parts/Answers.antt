@@ -1,6 +1,5 @@
 -- The merged parts are an optimal order of the level, and those of a level.
-use Rattle.std.proofs.Common.{◌≡◌, arith, sym, ap, ◌∙◌, subst, List}
-use Rattle.graphs.specs.declared.names.Level.{Level}
+use Rattle.std.proofs.Common.{arith, sym, ap, ◌∙◌, subst, List}
 use Rattle.cluster_store.specs.Stores.{Shown, Store, shown_in}
 use Rattle.levels.specs.Shelves.{one_of}
 use Rattle.levels.specs.Views.{HaveClusterNumbers}

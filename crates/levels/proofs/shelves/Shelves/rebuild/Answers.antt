@@ -1,5 +1,5 @@
 -- Clusters go out and come in, and names get their numbers.
-use Rattle.std.proofs.Common.{rules, ◌≡◌, ◌≤◌, ◌+◌, ◌*◌, ◌++◌, ℕ, List, Option, false, length, arith, sym, ap, ◌∙◌, subst, subst₂}
+use Rattle.std.proofs.Common.{rules, ◌≤◌, ◌+◌, ◌*◌, ◌++◌, ℕ, List, Option, length, arith, sym, subst, subst₂}
 use Rattle.std.specs.Prelude.{option_to_list, IfSome, []}
 use Rattle.graphs.specs.declared.names.Level.TheVariants.{Top}
 use Rattle.cluster.specs.Clusters.{Cluster}

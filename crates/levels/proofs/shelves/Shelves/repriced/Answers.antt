@@ -1,5 +1,5 @@
 -- The clusters of one number, or of two, get another fee of a name.
-use Rattle.std.proofs.Common.{rules, ◌≡◌, ◌≤◌, ℕ, ℤ, List, [], ◌∷◌, ◌++◌, map, Some, None, refl, sym, ap, ap₂, ◌∙◌, subst, subst₂, of_z, to_z, arith}
+use Rattle.std.proofs.Common.{rules, ◌≡◌, ◌≤◌, ℤ, List, [], ◌∷◌, ◌++◌, map, refl, sym, ap, ap₂, ◌∙◌, subst, subst₂, of_z, to_z, arith}
 use Rattle.std.specs.Prelude.{option_to_list}
 use Rattle.std.specs.Int.{w64}
 use Rattle.std.proofs.lemmas.Int.{to_z-of_z}

@@ -1,5 +1,5 @@
 -- A name gets another fee in each level that has it.
-use Rattle.std.proofs.Common.{rules, ◌≡◌, ◌≤◌, ℤ, is_some, refl, sym, ap, ◌∙◌, subst, of_z, to_z, arith, Contains}
+use Rattle.std.proofs.Common.{rules, ◌≤◌, ℤ, is_some, refl, sym, ap, ◌∙◌, subst, of_z, to_z, arith, Contains}
 use Rattle.std.specs.Int.{w64}
 use Rattle.std.proofs.lemmas.Int.{to_z-of_z}
 use Rattle.std.proofs.lemmas.Option.{same_Some}
@@ -8,7 +8,7 @@ use Rattle.fee_rate.specs.Limits.{IsFee}
 use Rattle.cluster.specs.Clusters.{Cluster}
 use Rattle.levels.specs.Moves.{SetsFees}
 use Rattle.levels.proofs.Counting.{grows_more, grows_none, steps_counted, steps_shared}
-use Rattle.levels.proofs.Fees.{HaveFee, fees_exchanged, fees_same, first_fee, first_there, one_fee, same_bits, same_fee, same_names}
+use Rattle.levels.proofs.Fees.{fees_exchanged, fees_same, first_fee, first_there, one_fee, same_bits, same_fee, same_names}
 use Rattle.levels.proofs.Rooms.{cluster_fits, exchange_fits, work_fits}
 use Rattle.levels.proofs.shelves.Shelves.set_fee.Goals as goal
 
