@@ -5,7 +5,7 @@ use Rattle.std.proofs.Common.{ℕ, zero, suc, ◌+◌, ◌*◌, ◌<◌, ◌≤�
 
 -- how many bytes a graph takes, whatever its width
 abbrev pub graph_room : ℕ → ℕ
-graph_room w = 888
+graph_room w = 1000
 
 -- and one component
 abbrev pub cluster_room : ℕ → ℕ
@@ -13,7 +13,7 @@ cluster_room w = 200
 
 -- and one with its tag
 abbrev pub stored_room : ℕ → ℕ
-stored_room w = 208
+stored_room w = 216
 
 pub cluster_fits : (w : ℕ) → graph_room w < 9223372036854775808 → cluster_room w < 9223372036854775808
 cluster_fits w fits = lit< tt
