@@ -16,7 +16,7 @@ use Rattle.levels.specs.Kept.{IsKept, SuitsShelf}
 use Rattle.levels.specs.Levels.{OneLevel, Levels, ChangesTop, level_at, with_top}
 use Rattle.levels.specs.Links.{IsLink}
 use Rattle.levels.specs.Moves.{Connects}
-use Rattle.levels.specs.declared.links.Link.TheVariants.{Between}
+use Rattle.levels.specs.declared.relation.Link.TheVariants.{Between}
 use Rattle.levels.specs.Rings.{Fewer, Ringed}
 use Rattle.levels.specs.Shelves.{Shelf, IsInOrder, levels_of, numbers_at, view_of}
 use Rattle.levels.specs.Stays.{AllStay}

@@ -10,7 +10,7 @@ use Rattle.cluster.specs.Steps.{GrowsWithin, most_steps}
 use Rattle.levels.specs.Shelves.{Shelf, IsInOrder, numbers_at, seen_at, stored_at, view_of}
 use Rattle.levels.specs.Views.{graph_of}
 use Rattle.levels.specs.Links.{IsLink}
-use Rattle.levels.specs.declared.links.Link.TheVariants.{Within, Between}
+use Rattle.levels.specs.declared.relation.Link.TheVariants.{Within, Between}
 use Rattle.levels.proofs.Graphs.{one_number}
 use Rattle.levels.proofs.Pairs.{IsLinkedToEither, AreTogether, AreBetween}
 use Rattle.levels.proofs.Sizes.{either_count, both_count}

@@ -12,7 +12,7 @@ use Rattle.levels.specs.Shelves.{Shelf, IsInOrder, numbers_at, stored_at, view_o
 use Rattle.levels.specs.Views.{graph_of}
 use Rattle.levels.specs.Joins.{DepRefusalIs, SumRefusalIs}
 use Rattle.levels.specs.Links.{IsLink, IsWithin}
-use Rattle.levels.specs.declared.links.Link.{Link}
+use Rattle.levels.specs.declared.relation.Link.{Link}
 use Rattle.levels.proofs.Graphs.{member-number}
 use Rattle.levels.proofs.Pairs.{AreTogether, within_row, cycle_row, between_row}
 use Rattle.levels.proofs.Sides.{together, between}

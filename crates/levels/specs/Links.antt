@@ -8,8 +8,8 @@ use Rattle.graph_model.specs.declared.names.Refusal.TheVariants.{Cycle}
 use Rattle.cluster.specs.Clusters.{Cluster}
 use Rattle.levels.specs.Shelves.{Shelf, numbers_at, seen_at, view_of}
 use Rattle.levels.specs.Views.{graph_of}
-use Rattle.levels.specs.declared.links.Link.{Link}
-use Rattle.levels.specs.declared.links.Link.TheVariants.{There, Within, Between}
+use Rattle.levels.specs.declared.relation.Link.{Link}
+use Rattle.levels.specs.declared.relation.Link.TheVariants.{There, Within, Between}
 
 -- How a pair of names of the top level stands that may be added: the one is an ancestor of the other already, or neither is and they are of one
 -- cluster, or of two, which together have no more names than may be.

@@ -15,7 +15,7 @@ ghost use Rattle.levels.specs.Shelves.{IsInOrder, numbers_at, seen_at, stored_at
 ghost use Rattle.levels.specs.Views.{graph_of};
 
 use crate::left::News;
-use crate::links::{Link, refused_sum, way_within};
+use crate::relation::{Link, refused_sum, way_within};
 use crate::shelves::Shelves;
 use chunk_index::Tag;
 use cluster_store::Exchange;

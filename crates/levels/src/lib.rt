@@ -10,11 +10,11 @@
 mod changes;
 mod left;
 mod levels;
-mod links;
 mod mining;
 mod moving;
 mod numbers;
 mod readings;
+mod relation;
 mod settling;
 mod shelves;
 mod stored;

@@ -26,7 +26,7 @@ ghost use Rattle.levels.specs.Tops.{Comes, IsMade};
 ghost use Rattle.levels.specs.Views.{graph_of};
 
 use crate::left::{Left, News};
-use crate::links::Link;
+use crate::relation::Link;
 use crate::shelves::{Shelves, last_count};
 use component::{Component, Work};
 use graph_model::{Level, TxId};
