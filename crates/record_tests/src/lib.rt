@@ -1,7 +1,9 @@
-//! The tests of `record`, by its public calls alone.
+//! The tests of `record`, and of stores of records over the limits, by their public calls alone.
 //!
-//! They stand apart, so that the functions of that crate are proved once, and not again with the tests.
+//! They stand apart, so that the functions of those crates are proved once, and not again with the tests.
 #![tactic(auto)]
 
 #[cfg(test)]
 mod record_tests;
+#[cfg(test)]
+mod store_tests;

@@ -1,5 +1,5 @@
 -- The name that joins is another, and stands alone.
-use Rattle.std.proofs.Common.{rules, ◌≡◌, ◌+◌, ◌<◌, ◌≤◌, ◌∷◌, [], List, ℕ, length, true, false, lit<, sym, ap, ◌∙◌, subst, arith, inl, inr, true≢false}
+use Rattle.std.proofs.Common.{rules, ◌≡◌, ◌<◌, ◌∷◌, [], List, ℕ, length, true, false, lit<, sym, ap, ◌∙◌, subst, arith, inl, inr, true≢false}
 use Rattle.std.specs.Prelude.{Contains}
 use Rattle.lists.proofs.Entries.{Contains-cases, Contains-head, none_in_empty}
 use Rattle.record.specs.Changes.{MayJoin}

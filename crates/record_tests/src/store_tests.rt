@@ -1,0 +1,352 @@
+ghost use Rattle.std.specs.Prelude.{◌≡◌, ◌<◌, [], ◌∷◌, IfOk};
+ghost use Rattle.cluster_store.specs.Tops.{StandsInTop};
+ghost use Rattle.record.specs.Records.{IsFitted};
+ghost use Rattle.record_tests.specs.declared.store_tests.TheConstants.{ONE_NAME};
+
+use chunk_index::Tag;
+use cluster_store::{ClusterStore, Exchange, Made, PartWalk, Stored};
+use component::Work;
+use graph_model::Limits;
+use graphs::{Level, TxId};
+use record::Record;
+use std::alloc::Global;
+use std::marker::Brand;
+use std::process::Abort;
+use std::sync::ledger;
+use std::sync::ledger::Blank;
+use std::test::Fail;
+use step_count::{Ledger, NoLedger, Steps};
+
+// A cluster may have one name.
+const ONE_NAME: Limits = Limits {
+    count: 1,
+    size: 1_000,
+    total: 10,
+};
+
+// ---- records, all made before the store is
+
+// What they are made in.
+#[derive(Drop)]
+struct Room {
+    alloc: Global,
+    work: Work<1>,
+}
+
+// The record of one name, with a fee of 10 and a size of 5.
+fn alone<L: Ledger>(room: &mut Room, steps: &mut Steps<L>, id: TxId) -> Result<Record<1>, Fail>
+    ensures names { IfOk result (λ r. r.names ≡ id ∷ []) }
+    ensures fitted { IfOk result (IsFitted 64 ONE_NAME) }
+{
+    Ok(Record::single(room.alloc, id, 10, 5, &mut room.work, steps)?)
+}
+
+// One record of two that have a name each. It is over the limits.
+fn joined<L: Ledger>(
+    rt: &impl Abort,
+    room: &mut Room,
+    steps: &mut Steps<L>,
+    old: &Record<1>,
+    one: &Record<1>,
+    pair: (TxId, TxId),
+) -> Result<Record<1>, Fail>
+    requires old { old.now.names ≡ pair.0 ∷ [] }
+    requires one { one.now.names ≡ pair.1 ∷ [] }
+    requires old_fits { IsFitted 64 ONE_NAME old.now }
+    requires one_fits { IsFitted 64 ONE_NAME one.now }
+{
+    assert!(rt; pair.0 != pair.1);
+    Ok(old.joined(
+        room.alloc,
+        one,
+        pair.0,
+        pair.1,
+        &ONE_NAME,
+        &mut room.work,
+        steps,
+    )?)
+}
+
+// One record of that of a name and another name, which depends on it.
+fn below<L: Ledger>(
+    rt: &impl Abort,
+    room: &mut Room,
+    steps: &mut Steps<L>,
+    old: &Record<1>,
+    parent: TxId,
+    child: TxId,
+) -> Result<Record<1>, Fail>
+    requires old { old.now.names ≡ parent ∷ [] }
+    requires fits { IsFitted 64 ONE_NAME old.now }
+{
+    let one = alone(room, steps, child)?;
+    let both = joined(rt, room, steps, old, &one, (parent, child));
+    drop(one);
+    both
+}
+
+// The record of a name and another that depends on it, one more than the limits allow.
+fn pair<L: Ledger>(
+    rt: &impl Abort,
+    room: &mut Room,
+    steps: &mut Steps<L>,
+    parent: TxId,
+    child: TxId,
+) -> Result<Record<1>, Fail> {
+    let old = alone(room, steps, parent)?;
+    let both = below(rt, room, steps, &old, parent, child);
+    drop(old);
+    both
+}
+
+// The record of one name, or of one and another that depends on it.
+fn made<L: Ledger>(
+    rt: &impl Abort,
+    room: &mut Room,
+    steps: &mut Steps<L>,
+    row: &(TxId, Option<TxId>),
+) -> Result<Record<1>, Fail> {
+    match row.1 {
+        Some(child) => pair(rt, room, steps, row.0, child),
+        None => alone(room, steps, row.0),
+    }
+}
+
+// ---- the table
+
+// A store, the numbers of its records in the order in which they came, and the records that are still to come, the next one
+// last.
+#[derive(Drop)]
+struct Table {
+    alloc: Global,
+    store: ClusterStore<1>,
+    numbers: Vec<usize>,
+    records: Vec<Record<1>>,
+}
+
+// What a row does. Records are told by when they came.
+#[derive(Clone, Copy)]
+enum Act {
+    // So many records come into staging, and one more as the last of them.
+    Come(usize),
+    // That one goes out of staging.
+    Leave(usize),
+    // The next record takes the place of that one, in each level that has it.
+    Exchange(usize),
+    // A staging is closed, and that level stays.
+    Settle(Level),
+}
+
+fn next(rt: &impl Abort, table: &mut Table) -> Record<1> {
+    match table.records.pop() {
+        Some(record) => record,
+        None => panic!(rt; "no record is left"),
+    }
+}
+
+// So many records.
+fn some(rt: &impl Abort, table: &mut Table, count: usize) -> Result<Vec<Record<1>>, Fail> {
+    let mut records = Vec::new(table.alloc);
+    for _ in 0..count {
+        records.push(next(rt, table))?;
+    }
+    Ok(records)
+}
+
+fn number(rt: &impl Abort, table: &Table, at: usize) -> usize {
+    assert!(rt; at < table.numbers.len());
+    table.numbers[at]
+}
+
+// The numbers of those that came stand behind the others.
+fn note(table: &mut Table, made: Made) -> Result<(), Fail> {
+    for number in made.rest {
+        table.numbers.push(number)?;
+    }
+    if let Some(number) = made.last {
+        table.numbers.push(number)?;
+    }
+    Ok(())
+}
+
+// Asserts that a number has a record of the top level.
+#[tactic(auto, using(cluster_store::proofs::Callers::stands_by))]
+fn stands(rt: &impl Abort, store: &ClusterStore<1>, number: usize)
+    ensures { StandsInTop store.now.clusters number }
+{
+    match store.tag(number) {
+        Some(Tag::Both) => {}
+        Some(Tag::TopOnly) => {}
+        _ => panic!(rt; "no record of the top level"),
+    }
+}
+
+#[tactic(auto, using(cluster_store::proofs::Callers::none_leave))]
+fn come(rt: &impl Abort, table: &mut Table, rest: usize) -> Result<(), Fail> {
+    let coming = some(rt, table, rest)?;
+    let last = next(rt, table);
+    let made = table.store.rebuild(true, &[], coming, Some(last))?;
+    note(table, made)
+}
+
+#[tactic(auto, using(cluster_store::proofs::Callers::one_leaves))]
+fn leave(rt: &impl Abort, table: &mut Table, out: usize) -> Result<(), Fail> {
+    let number = number(rt, table, out);
+    stands(rt, &table.store, number);
+    let made = table
+        .store
+        .rebuild(true, &[number], Vec::new(table.alloc), None)?;
+    note(table, made)
+}
+
+#[tactic(auto, using(cluster_store::proofs::Callers::one_held, cluster_store::proofs::Callers::held_by))]
+fn exchange(rt: &impl Abort, table: &mut Table, at: usize) -> Result<(), Fail> {
+    let mut exchanges = Vec::with_capacity(table.alloc, 1)?;
+    let number = number(rt, table, at);
+    exchanges.push_reserved(Exchange::new(number, next(rt, table)));
+    assert!(rt; table.store.tag(number).is_some());
+    table.store.exchange(exchanges)?;
+    Ok(())
+}
+
+fn obey(rt: &impl Abort, table: &mut Table, act: Act) -> Result<(), Fail> {
+    match act {
+        Act::Come(rest) => come(rt, table, rest),
+        Act::Leave(out) => leave(rt, table, out),
+        Act::Exchange(at) => exchange(rt, table, at),
+        Act::Settle(stays) => {
+            table.store.settle(stays);
+            Ok(())
+        }
+    }
+}
+
+// The names of the next part of a walk. It has no clause, since callers would pay for it in their proofs.
+fn next_part<'a>(walk: &mut PartWalk<'a, Stored<1>>) -> Option<&'a [TxId]> {
+    match walk.next() {
+        Some(shown) => Some(shown.part.ids),
+        None => None,
+    }
+}
+
+// Asserts that a part is of this name alone.
+fn is_of(rt: &impl Abort, part: Option<&[TxId]>, name: TxId) {
+    match part {
+        Some(ids) => assert_eq!(rt; ids, [name].as_slice()),
+        None => panic!(rt; "a part is missing"),
+    }
+}
+
+// Asserts that a walk gives these names, one a part.
+fn gives(rt: &impl Abort, mut walk: PartWalk<'_, Stored<1>>, names: &[TxId]) {
+    for name in names {
+        is_of(rt, next_part(&mut walk), *name);
+    }
+    assert!(rt; next_part(&mut walk).is_none());
+}
+
+// Asserts whether a record without an order stands in a level, and that the parts of the others have these names.
+fn tells(rt: &impl Abort, store: &ClusterStore<1>, level: Level, lacks: bool, names: &[TxId]) {
+    assert!(rt; store.lacks_order(level) == lacks);
+    gives(rt, store.walk(level), names);
+}
+
+// Rows, and after each whether main and the top level lack an order, and the names that their walks give.
+static ROWS: [(Act, [bool; 2], [&[TxId]; 2]); 12] = [
+    (Act::Come(0), [false, false], [&[], &[1]]),
+    (Act::Settle(Level::Top), [false, false], [&[1], &[1]]),
+    // one over the limits comes into staging, which is dropped
+    (Act::Come(1), [false, true], [&[1], &[1, 4]]),
+    (Act::Settle(Level::Main), [false, false], [&[1], &[1]]),
+    // one comes as the last, and the staging is kept
+    (Act::Come(0), [false, true], [&[1], &[1]]),
+    (Act::Settle(Level::Top), [true, true], [&[1], &[1]]),
+    // it goes out of a staging that is dropped, and of one that is kept
+    (Act::Leave(3), [true, false], [&[1], &[1]]),
+    (Act::Settle(Level::Main), [true, true], [&[1], &[1]]),
+    (Act::Leave(3), [true, false], [&[1], &[1]]),
+    (Act::Settle(Level::Top), [false, false], [&[1], &[1]]),
+    // one takes the place of the other in both levels, and gives it back
+    (Act::Exchange(0), [true, true], [&[], &[]]),
+    (Act::Exchange(0), [false, false], [&[9], &[9]]),
+];
+
+fn each_row(rt: &impl Abort, table: &mut Table) -> Result<(), Fail> {
+    for (act, lacks, names) in &ROWS {
+        obey(rt, table, *act)?;
+        tells(rt, &table.store, Level::Main, lacks[0], names[0]);
+        tells(rt, &table.store, Level::Top, lacks[1], names[1]);
+    }
+    Ok(())
+}
+
+// The records that come, the last one first.
+static RECORDS: [(TxId, Option<TxId>); 6] = [
+    (9, None),
+    (7, Some(8)),
+    (5, Some(6)),
+    (4, None),
+    (2, Some(3)),
+    (1, None),
+];
+
+// Makes them.
+fn fill<L: Ledger>(
+    rt: &impl Abort,
+    room: &mut Room,
+    steps: &mut Steps<L>,
+    records: &mut Vec<Record<1>>,
+) -> Result<(), Fail> {
+    for row in &RECORDS {
+        records.push(made(rt, room, steps, row)?)?;
+    }
+    Ok(())
+}
+
+fn rows_of<L: Ledger>(
+    rt: &impl Abort,
+    room: &mut Room,
+    steps: &mut Steps<L>,
+    table: &mut Table,
+) -> Result<(), Fail> {
+    fill(rt, room, steps, &mut table.records)?;
+    each_row(rt, table)
+}
+
+// A table of its own, which is dropped once.
+fn begun<L: Ledger>(rt: &impl Abort, room: &mut Room, steps: &mut Steps<L>) -> Result<(), Fail> {
+    let alloc = room.alloc;
+    let mut table = Table {
+        alloc,
+        store: ClusterStore::new(alloc),
+        numbers: Vec::new(alloc),
+        records: Vec::new(alloc),
+    };
+    let done = rows_of(rt, room, steps, &mut table);
+    drop(table);
+    done
+}
+
+fn rows<K: ledger::Ledger>(rt: &impl Abort, alloc: Global, blank: Blank) -> Result<(), Fail>
+    requires name { blank.name ≡ K.name }
+    requires parts { blank.parts ≡ K.parts }
+    requires some { 0 < blank.parts }
+{
+    let mut steps = Steps::new(NoLedger::<K>::new(blank));
+    let mut room = Room {
+        alloc,
+        work: Work::new(alloc)?,
+    };
+    let done = begun(rt, &mut room, &mut steps);
+    drop(room);
+    done
+}
+
+// Records over the limits come, take the places of others and go, stagings are closed, and each level lacks an order just while one of
+// them stands in it.
+#[test]
+fn levels_lack_an_order_while_one_over_the_limits_stands_there(
+    rt: HostRuntime,
+) -> Result<(), Fail> {
+    rows::<Brand>(&rt, rt.alloc(), Blank::new(1))
+}
