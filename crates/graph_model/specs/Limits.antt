@@ -1,5 +1,6 @@
 -- The limits within which a transaction graph works. Sizes are in virtual bytes.
-use Rattle.std.specs.Prelude.{ℕ, ◌<◌, ◌≤◌, ◌⊎◌, Bool, false, List, length, sum_by}
+use Rattle.std.specs.Prelude.{ℕ, ◌<◌, ◌≤◌, ◌⊎◌, Bool, List, length, sum_by, refl}
+use Rattle.std.specs.Coded.{Coded, code_by, coded×, coded_ℕ, coded_bool}
 use Rattle.fee_rate.specs.declared.limits.TheConstants.{MAX_TOTAL}
 use Rattle.graph_model.specs.declared.names.Limits.{Limits}
 use Rattle.graph_model.specs.declared.limits.TheConstants.{MAX_CLUSTER_SIZE, DEFAULT_LIMITS}
@@ -12,9 +13,15 @@ pub record Bounds : Type 0 where
   pub total : ℕ
   pub defer : Bool
 
--- limits that no dependency may pass
+-- the same of the limits that Rust has
 abbrev pub bounds_of : Limits → Bounds
-bounds_of limits = record { count = limits.count; size = limits.size; total = limits.total; defer = false }
+bounds_of limits = record { count = limits.count; size = limits.size; total = limits.total; defer = limits.defer }
+
+abbrev pub limits_code : Coded Limits
+limits_code =
+    code_by (ℕ × (ℕ × (ℕ × Bool))) (coded× coded_ℕ (coded× coded_ℕ (coded× coded_ℕ coded_bool)))
+    (λ l. (l.count, (l.size, (l.total, l.defer))))
+    (λ p. record { count = p.0; size = p.1.0; total = p.1.1.0; defer = p.1.1.1 }) (λ _. refl)
 
 -- the limits that may be set where a cluster may be allowed so many names
 pub record AreInRange (most : ℕ) (bounds : Bounds) : Type 0 where

@@ -16,6 +16,7 @@ pub const DEFAULT_LIMITS: Limits = Limits {
     count: 64,
     size: 404_000,
     total: 1_048_576,
+    defer: false,
 };
 
 /// The most mined blocks that are kept to be taken back.

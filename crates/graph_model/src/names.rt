@@ -11,6 +11,8 @@ pub struct Limits {
     pub size: u64,
     /// The most names that may be live, in main and staging together: 1 to 1,048,576.
     pub total: u64,
+    /// Whether a dependency may bring a cluster over the first two for a while. Its level has no order until it is within them again.
+    pub defer: bool,
 }
 
 /// Transactions that were picked, in their order, with what they pay and take together.
