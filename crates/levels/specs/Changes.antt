@@ -3,7 +3,8 @@ use Rattle.std.specs.Prelude.{◌≡◌, ◌⊎◌, ℕ, true, List, slice_get, 
 use Rattle.std.specs.List.{AllPairs}
 use Rattle.std.specs.FinMap as finmap
 use Rattle.graphs.specs.Closures.{Closure, is_member}
-use Rattle.cluster.specs.Clusters.{Cluster, IsCluster, AreApart}
+use Rattle.cluster.specs.Clusters.{Cluster, AreApart}
+use Rattle.record.specs.Records.{IsRecord}
 pub use Rattle.cluster_store.specs.Tops.{AreAt, Replaces}
 use Rattle.levels.specs.Views.{View, Numbers, IsClusterOf}
 
@@ -30,7 +31,7 @@ pub record Points (made : List ℕ) (news : List Cluster) (gone : List ℕ) (old
 -- The clusters that come in have the names of those that go out, but for some that are gone, and names that are new; no two have a name in
 -- common.
 pub record Covers (most : ℕ) (olds news : List Cluster) (gone : List ℕ) (numbers : Numbers) : Type 0 where
-  pub whole : (c : Cluster) → Contains news c → IsCluster most c
+  pub whole : (c : Cluster) → Contains news c → IsRecord most c
   pub apart : AllPairs AreApart news
   pub from : (id : ℕ) → IsNamed news id → IsNamed olds id ⊎ (finmap.get numbers id ≡ None)
   pub kept : (id : ℕ) → IsNamed olds id → IsNamed news id ⊎ Contains gone id

@@ -1,5 +1,5 @@
 -- The refusals of pairs, told by the graph that is kept.
-use Rattle.std.specs.Prelude.{◌≡◌, ◌⊎◌, ℕ, ◌<◌, true, List, length, sum_by, Option}
+use Rattle.std.specs.Prelude.{◌≡◌, ◌⊎◌, ℕ, ◌<◌, true, false, List, length, sum_by, Option}
 use Rattle.graphs.specs.Closures.{Closure, is_member, is_ancestor, rate_of, AreLinked}
 use Rattle.graph_model.specs.declared.names.Limits.{Limits}
 use Rattle.graph_model.specs.declared.names.Refusal.{Refusal}
@@ -11,14 +11,15 @@ use Rattle.graph_model.specs.Refusals.{FirstAt, NoRefusal, DepRow}
 abbrev pub JoinsTo : Closure → ℕ → ℕ → List ℕ → Type 0
 JoinsTo graph parent child members = (AreLinked graph parent child → ⊥) × Lists (λ id. AreLinked graph id parent ⊎ AreLinked graph id child) members
 
--- its names are more than may be
+-- its names are more than may be, and no dependency may pass the limits
 abbrev pub JoinsTooMany : Limits → Closure → ℕ → ℕ → ℕ → Type 0
-JoinsTooMany limits graph parent child n = (members : List ℕ) × JoinsTo graph parent child members × (n ≡ length members) × (limits.count < n)
+JoinsTooMany limits graph parent child n =
+    (members : List ℕ) × (limits.defer ≡ false) × JoinsTo graph parent child members × (n ≡ length members) × (limits.count < n)
 
--- its total size is larger than may be
+-- its total size is larger than may be, and no dependency may pass the limits
 abbrev pub JoinsTooLarge : Limits → Closure → ℕ → ℕ → ℕ → Type 0
 JoinsTooLarge limits graph parent child n =
-    (members : List ℕ) × JoinsTo graph parent child members × (n ≡ sum_by (λ id. (rate_of graph id).size) members) × (limits.size < n)
+    (members : List ℕ) × (limits.defer ≡ false) × JoinsTo graph parent child members × (n ≡ sum_by (λ id. (rate_of graph id).size) members) × (limits.size < n)
 
 -- the refusal that a pair meets
 abbrev pub DepRefusalIs : Limits → Closure → ℕ → ℕ → Option Refusal → Type 0
@@ -29,5 +30,5 @@ DepRefusalIs limits graph parent child =
 -- the refusal that two numbers of names and two sizes meet when they are put together
 abbrev pub SumRefusalIs : Limits → ℕ → ℕ → Option Refusal → Type 0
 SumRefusalIs limits count size =
-    FirstAt (λ n. (n ≡ count) × (limits.count < n)) Count
-    (FirstAt (λ n. (n ≡ size) × (limits.size < n)) ClusterSize NoRefusal)
+    FirstAt (λ n. (limits.defer ≡ false) × (n ≡ count) × (limits.count < n)) Count
+    (FirstAt (λ n. (limits.defer ≡ false) × (n ≡ size) × (limits.size < n)) ClusterSize NoRefusal)

@@ -8,8 +8,10 @@ use Rattle.lists.specs.Walks.{Walk}
 use Rattle.graphs.specs.Closures.{Closure, AreLinked}
 use Rattle.graphs.specs.declared.names.Level.TheVariants.{Top}
 use Rattle.cluster.specs.Changes.{IsLeft, AreNearLeft}
-use Rattle.cluster.specs.Clusters.{Cluster, IsCluster, AreApart}
-use Rattle.cluster.specs.Steps.{most_steps_of}
+use Rattle.cluster.specs.Clusters.{Cluster, AreApart}
+use Rattle.record.specs.Records.{IsFitted}
+use Rattle.record.specs.Steps.{most_steps_fit_of}
+use Rattle.graph_model.specs.declared.names.Limits.{Limits}
 use Rattle.levels.specs.Changes.{AreAt, IsNamed}
 use Rattle.levels.specs.Moves.{DropsIn}
 use Rattle.levels.specs.Shelves.{Shelf, numbers_at, seen_at}
@@ -27,7 +29,7 @@ pub record AreLeft (w : ℕ) (gone outs : List ℕ) (rest : List Cluster) (last 
   pub olds : List Cluster
   pub once : AreDistinct outs
   pub at : AreAt (seen_at Top shelf.store.clusters) outs olds
-  pub whole : (c : Cluster) → Contains (rest ++ option_to_list last) c → IsCluster (64 * w) c
+  pub fitted : (c : Cluster) → Contains (rest ++ option_to_list last) c → IsFitted (64 * w) shelf.limits c
   pub apart : AllPairs AreApart (rest ++ option_to_list last)
   pub drops : DropsIn olds (rest ++ option_to_list last) gone
   pub all : (id : ℕ) → Contains gone id → IsNamed olds id
@@ -55,7 +57,7 @@ pub record Takes (number : ℕ) (pieces : List Cluster) (outs : List ℕ) (rest 
   pub first : outs ≡ [] → IsPermutation pieces (new_rest ++ option_to_list new_last)
   pub later : outs ≢ [] → (new_rest ≡ rest ++ pieces) × (new_last ≡ last)
 
--- A count grew, and by no more than the orders of what is left of the components that lose a name take.
-pub record DropsWithin (gone : List ℕ) (g : Closure) (before after : ℕ) : Type 0 where
+-- A count grew, and by no more than the orders take of what is left of the components that lose a name, where it is within the limits.
+pub record DropsWithin (limits : Limits) (gone : List ℕ) (g : Closure) (before after : ℕ) : Type 0 where
   pub grew : before ≤ after
-  pub few : (lists : List (List ℕ)) → AreRests g gone lists → after ≤ before + most_steps_of lists
+  pub few : (lists : List (List ℕ)) → AreRests g gone lists → after ≤ before + most_steps_fit_of limits g lists

@@ -6,6 +6,8 @@ use Rattle.graphs.specs.declared.names.Level.{Level}
 use Rattle.graphs.specs.declared.names.Level.TheVariants.{Main, Top}
 use Rattle.graphs.specs.Closures.{Closure, closure_code, is_member, is_ancestor, rate_of, AreLinked, SetsFee}
 use Rattle.fee_rate.specs.declared.rates.FeeRate.{FeeRate}
+use Rattle.graph_model.specs.declared.names.Limits.{Limits}
+use Rattle.graph_model.specs.Limits.{limits_code}
 use Rattle.fee_rate.specs.declared.limits.TheConstants.{MAX_TOTAL}
 use Rattle.fee_rate.specs.Limits.{IsRate}
 use Rattle.graphs.specs.Closing.{IsClosureOf}
@@ -14,15 +16,18 @@ use Rattle.graphs.specs.Graphs.{Graph, Lists}
 use Rattle.graphs.specs.Linearizations.{IsOptimal}
 use Rattle.graph_model.specs.States.{top_of}
 use Rattle.cluster.specs.Clusters.{part_code, sum_at, ArePicked, AreUncut}
-use Rattle.cluster.specs.Steps.{GrowsWithin, most_steps}
+use Rattle.cluster.specs.Steps.{GrowsWithin}
+use Rattle.record.specs.Steps.{most_steps_fit}
+use Rattle.levels.specs.Oversize.{IsOversized}
 
 -- of a level: each name with its fee, its size and its ancestors, and the parts of its order
 pub record OneLevel : Type 0 where
   pub graph : Closure
   pub parts : List Part
 
--- main, staging where there is one, and how many names were added so far
+-- the limits of clusters, main, staging where there is one, and how many names were added so far
 pub record Levels : Type 0 where
+  pub limits : Limits
   pub main : OneLevel
   pub staging : Option OneLevel
   pub issued : ℕ
@@ -33,15 +38,16 @@ level_code =
 
 abbrev pub levels_code : Coded Levels
 levels_code =
-    code_by (OneLevel × (Option OneLevel × ℕ)) (coded× level_code (coded× (coded_option level_code) coded_ℕ))
-    (λ l. (l.main, (l.staging, l.issued))) (λ p. record { main = p.0; staging = p.1.0; issued = p.1.1 }) (λ _. refl)
+    code_by (Limits × (OneLevel × (Option OneLevel × ℕ))) (coded× limits_code (coded× level_code (coded× (coded_option level_code) coded_ℕ)))
+    (λ l. (l.limits, (l.main, (l.staging, l.issued))))
+    (λ p. record { limits = p.0; main = p.1.0; staging = p.1.1.0; issued = p.1.1.1 }) (λ _. refl)
 
 -- no name
 abbrev pub empty_level : OneLevel
 empty_level = record { graph = finmap.empty; parts = [] }
 
-abbrev pub no_names : Levels
-no_names = record { main = empty_level; staging = None; issued = 0 }
+abbrev pub no_names : Limits → Levels
+no_names limits = record { limits = limits; main = empty_level; staging = None; issued = 0 }
 
 -- a level by its word: the top level is staging where there is one, else main
 abbrev pub level_at : Levels → Level → OneLevel
@@ -60,11 +66,12 @@ ChangesTop Changes old new = (top : OneLevel) × Changes (level_at old Top).grap
 abbrev pub IsLive : Levels → ℕ → Type 0
 IsLive levels id = (is_member levels.main.graph id ≡ true) ⊎ (is_member (level_at levels Top).graph id ≡ true)
 
--- A name may come, with this fee and size: it is in neither level, the fee and the size are in range, fewer names are live than may be, and
--- fewer were added so far than can be counted.
+-- A name may come, with this fee and size: it is in neither level, the fee and the size are in range, the size is within the limit of a
+-- cluster, fewer names are live than may be, and fewer were added so far than can be counted.
 pub record MayCome (levels : Levels) (id : ℕ) (rate : FeeRate) : Type 0 where
   pub absent : IsLive levels id → ⊥
   pub in_range : IsRate rate
+  pub fits : rate.size ≤ levels.limits.size
   pub few : (ids : List ℕ) × Lists (IsLive levels) ids × (length ids < MAX_TOTAL)
   pub issued : levels.issued < 2 ^ 64 - 1
 
@@ -73,10 +80,18 @@ pub record HasPick (level : OneLevel) : Type 0 where
   pub picked : ArePicked level.graph level.parts
   pub uncut : AreUncut level.graph level.parts
 
-abbrev pub HavePicks : Levels → Type 0
-HavePicks levels = HasPick levels.main × IfSome levels.staging HasPick
+-- A level has a pick, unless it is over the limits.
+abbrev pub MayHavePick : Limits → OneLevel → Type 0
+MayHavePick limits level = IsOversized limits level.graph ⊎ ((IsOversized limits level.graph → ⊥) × HasPick level)
 
--- They are, and so an optimal order of every graph that the level is the closure of.
+abbrev pub HavePicks : Levels → Type 0
+HavePicks levels = MayHavePick levels.limits levels.main × IfSome levels.staging (MayHavePick levels.limits)
+
+-- The level isn't over the limits.
+abbrev pub IsWithin : Levels → Level → Type 0
+IsWithin levels level = IsOversized levels.limits (level_at levels level).graph → ⊥
+
+-- Its parts are a pick, and so an optimal order of every graph that the level is the closure of.
 pub record IsBest (level : OneLevel) : Type 0 where
   pub pick : HasPick level
   pub optimal : (graph : Graph) → IsClosureOf level.graph graph → IsOptimal (sum_at level.graph) graph (map (λ part. part.ids) level.parts)
@@ -102,20 +117,21 @@ SetsFeeOf id fee old new =
 -- the same in both levels
 pub record SetsFeeIn (id : ℕ) (fee : ℤ) (old new : Levels) : Type 0 where
   pub main : SetsFeeOf id fee old.main new.main
+  pub limits : new.limits ≡ old.limits
   pub staged : is_some new.staging ≡ is_some old.staging
   pub top : SetsFeeOf id fee (level_at old Top) (level_at new Top)
   pub issued : new.issued ≡ old.issued
 
 -- ---- the steps of a new fee
 
--- the most steps of an order of n names, and none where no order is made
-abbrev pub steps_where : Bool → ℕ → ℕ
-steps_where made n = cond made (most_steps n) 0
+-- the most steps of the order of some names, and none where no order is made
+abbrev pub steps_where : Bool → Limits → Closure → List ℕ → ℕ
+steps_where made limits g ids = cond made (most_steps_fit limits g ids) 0
 
--- A count grew by at most what the orders of a name's components take: of main's where main has the name, and of staging's where there is a
--- staging that has it.
+-- A count grew by at most what the orders of a name's components take that are within the limits: of main's where main has the name, and of
+-- staging's where there is a staging that has it.
 abbrev pub GrowsForFee : ℕ → ℕ → ℕ → Levels → Type 0
 GrowsForFee id before after levels =
     (mains tops : List ℕ) → Lists (AreLinked levels.main.graph id) mains → Lists (AreLinked (level_at levels Top).graph id) tops
-    → GrowsWithin (steps_where (is_member levels.main.graph id) (length mains)
-    + steps_where (is_some levels.staging && is_member (level_at levels Top).graph id) (length tops)) before after
+    → GrowsWithin (steps_where (is_member levels.main.graph id) levels.limits levels.main.graph mains
+    + steps_where (is_some levels.staging && is_member (level_at levels Top).graph id) levels.limits (level_at levels Top).graph tops) before after

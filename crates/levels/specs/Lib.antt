@@ -8,6 +8,7 @@ pub mod Links
 pub mod Mining
 pub mod Moves
 pub mod Orders
+pub mod Oversize
 pub mod Places
 pub mod Rings
 pub mod Settling

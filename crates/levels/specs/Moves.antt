@@ -5,10 +5,12 @@ use Rattle.graphs.specs.declared.names.Level.{Level}
 use Rattle.graphs.specs.declared.names.Level.TheVariants.{Main, Top}
 use Rattle.fee_rate.specs.declared.rates.FeeRate.{FeeRate}
 use Rattle.graphs.specs.Closures.{is_ancestor, rate_of, SetsFee}
-use Rattle.cluster.specs.Clusters.{Cluster, IsCluster}
+use Rattle.cluster.specs.Clusters.{Cluster}
+use Rattle.record.specs.Records.{IsFitted}
+use Rattle.record.specs.Steps.{most_steps_again}
 use Rattle.cluster_store.specs.Stores.{Exchange}
 use Rattle.cluster.specs.Changes.{IsAncestorIn, IsSingle}
-use Rattle.cluster.specs.Steps.{GrowsWithin, most_steps}
+use Rattle.cluster.specs.Steps.{GrowsWithin}
 use Rattle.levels.specs.Changes.{IsNamed, Rebuilds}
 use Rattle.levels.specs.Shelves.{Shelf, numbers_at, seen_at, stored_at, view_of}
 use Rattle.levels.specs.Tops.{Comes, IsMade, TopRebuilds}
@@ -96,7 +98,7 @@ pub record IsPriced (w id : ℕ) (fee : ℤ) (x : Exchange) (shelf : Shelf) : Ty
   pub was : Cluster
   pub at : stored_at shelf.store.clusters x.number ≡ Some was
   pub held : Contains was.names id
-  pub whole : IsCluster (64 * w) x.cluster
+  pub fitted : IsFitted (64 * w) shelf.limits x.cluster
   pub names : x.cluster.names ≡ was.names
   pub sets : SetsFee was.graph x.cluster.graph id fee
 
@@ -104,13 +106,13 @@ pub record IsPriced (w id : ℕ) (fee : ℤ) (x : Exchange) (shelf : Shelf) : Ty
 abbrev pub ArePriced : ℕ → ℕ → ℤ → List Exchange → Shelf → Type 0
 ArePriced w id fee list shelf = (x : Exchange) → Contains list x → IsPriced w id fee x shelf
 
--- A count grew by at most what the orders of the clusters of a number, or of two, take.
+-- A count grew by at most what the orders of the clusters of a number, or of two, take, where they have one.
 abbrev pub GrowsForBoth : ℕ → Option ℕ → Shelf → ℕ → ℕ → Type 0
 GrowsForBoth first second shelf before after =
     (c : Cluster) → stored_at shelf.store.clusters first ≡ Some c
-    → MatchOption second (GrowsWithin (most_steps (length c.names)) before after)
+    → MatchOption second (GrowsWithin (most_steps_again c) before after)
     (λ number. (d : Cluster) → stored_at shelf.store.clusters number ≡ Some d
-    → GrowsWithin (most_steps (length c.names) + most_steps (length d.names)) before after)
+    → GrowsWithin (most_steps_again c + most_steps_again d) before after)
 
 -- so it is in both levels, and the names keep their numbers
 pub record SetsFees (w id : ℕ) (fee : ℤ) (old new : Shelf) : Type 0 where
@@ -118,3 +120,4 @@ pub record SetsFees (w id : ℕ) (fee : ℤ) (old new : Shelf) : Type 0 where
   pub top : SetsFeeAt w id fee Top old new
   pub numbers : new.main ≡ old.main
   pub staging : new.staging ≡ old.staging
+  pub limits : new.limits ≡ old.limits

@@ -3,7 +3,8 @@ use Rattle.std.specs.Prelude.{◌≡◌, ◌==◌, ℕ, ◌*◌, ◌<◌, ◌≤
 use Rattle.std.specs.FinMap as finmap
 use Rattle.lists.specs.Distinct.{AreDistinct}
 use Rattle.graphs.specs.declared.names.Level.TheVariants.{Main, Top}
-use Rattle.cluster.specs.Clusters.{Cluster, IsCluster}
+use Rattle.cluster.specs.Clusters.{Cluster}
+use Rattle.record.specs.Records.{IsFitted}
 use Rattle.cluster_store.specs.Changes.{AreHeld}
 use Rattle.cluster_store.specs.Stores.{Exchange}
 pub use Rattle.cluster_store.specs.Tops.{Exchanged}
@@ -15,6 +16,7 @@ use Rattle.levels.specs.Views.{Numbers}
 pub record TopRebuilds (w : ℕ) (outs made : List ℕ) (olds news : List Cluster) (gone : List ℕ) (old new : Shelf) : Type 0 where
   pub top : Rebuilds (64 * w) outs made olds news gone (view_of Top old) (view_of Top new)
   pub staged : is_some new.staging ≡ is_some old.staging
+  pub limits : new.limits ≡ old.limits
   pub base : IsSome old.staging → new.main ≡ old.main
   pub main : IsSome old.staging → (n : ℕ) → seen_at Main new.store.clusters n ≡ seen_at Main old.store.clusters n
   pub fresh : IsSome old.staging → (n : ℕ) → Contains made n → seen_at Main new.store.clusters n ≡ None
@@ -38,6 +40,7 @@ pub record Comes (w : ℕ) (outs : List ℕ) (rest : List Cluster) (last : Optio
   pub lost : AreDistinct gone
   pub at : AreAt (seen_at Top shelf.store.clusters) outs olds
   pub covers : Covers (64 * w) olds (rest ++ option_to_list last) gone (numbers_at Top shelf)
+  pub fitted : (c : Cluster) → Contains (rest ++ option_to_list last) c → IsFitted (64 * w) shelf.limits c
   pub known : (id : ℕ) → IsNamed (rest ++ option_to_list last) id → IsNamed olds id
   pub front : IfSome last (λ c. HasFront kept outs c.names (numbers_at Top shelf))
   pub some : IsSome last → 1 ≤ kept
@@ -50,5 +53,5 @@ fresh_from kept (first ∷ others) number = if first == number then kept else 0
 -- These clusters may stand under their numbers in the places of those that are there: each is told once and has the same names.
 pub record HaveSameNames (w : ℕ) (exchanged : List Exchange) (shelf : Shelf) : Type 0 where
   pub held : AreHeld exchanged shelf.store.clusters
-  pub whole : (x : Exchange) → Contains exchanged x → IsCluster (64 * w) x.cluster
+  pub fitted : (x : Exchange) → Contains exchanged x → IsFitted (64 * w) shelf.limits x.cluster
   pub names : (x : Exchange) (c : Cluster) → Contains exchanged x → stored_at shelf.store.clusters x.number ≡ Some c → x.cluster.names ≡ c.names

@@ -6,7 +6,8 @@ use Rattle.std.specs.FinSet as set
 use Rattle.graphs.specs.Certificates.{Part}
 use Rattle.graphs.specs.Closures.{Node, Closure, is_member, is_ancestor, rate_of, ancestors_of, no_rate, AreLinked}
 use Rattle.staging.specs.Maps.{Map}
-use Rattle.cluster.specs.Clusters.{Cluster, IsCluster}
+use Rattle.cluster.specs.Clusters.{Cluster}
+use Rattle.record.specs.Records.{IsRecord}
 use Rattle.cluster_store.specs.Stores.{Shown}
 
 -- the number of each name's cluster
@@ -39,7 +40,7 @@ pub record StandsAt (view : View) (number id : ℕ) : Type 0 where
 pub record IsIndexed (most : ℕ) (view : View) : Type 0 where
   pub stands : (id number : ℕ) → finmap.get view.numbers id ≡ Some number → StandsAt view number id
   pub listed : (number id : ℕ) (c : Cluster) → view.at number ≡ Some c → Contains c.names id → finmap.get view.numbers id ≡ Some number
-  pub whole : (number : ℕ) (c : Cluster) → view.at number ≡ Some c → IsCluster most c
+  pub whole : (number : ℕ) (c : Cluster) → view.at number ≡ Some c → IsRecord most c
 
 -- The cluster of a name, told by the graph: it says of its names what the graph says of them, and the graph links them to no other.
 pub record IsClusterOf (graph : Closure) (id : ℕ) (c : Cluster) : Type 0 where

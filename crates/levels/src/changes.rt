@@ -6,33 +6,34 @@ ghost use Rattle.graphs.specs.declared.names.Level.TheVariants.{Main, Top};
 ghost use Rattle.graphs.specs.Closures.{rate_of, AreLinked};
 ghost use Rattle.graphs.specs.Graphs.{Lists};
 ghost use Rattle.cluster.specs.Clusters as records;
-ghost use Rattle.cluster.specs.Steps.{GrowsWithin, most_steps, most_steps_of};
+ghost use Rattle.cluster.specs.Steps.{GrowsWithin};
+ghost use Rattle.record.specs.Steps.{most_steps_again, most_steps_fit};
 ghost use Rattle.levels.specs.Joins.{DepRefusalIs};
 ghost use Rattle.levels.specs.Levels.{steps_where};
-ghost use Rattle.levels.specs.Links.{IsLink};
+ghost use Rattle.levels.specs.Links.{IsLink, IsWithin};
 ghost use Rattle.levels.specs.Moves.{AreNumbersOf, ArePriced, GrowsForBoth, IsPriced, PairsIn, SetsFees};
-ghost use Rattle.levels.specs.Shelves.{IsInOrder, numbers_at, seen_at, stored_at, view_of};
+ghost use Rattle.levels.specs.Shelves.{HaveFew, IsInOrder, numbers_at, seen_at, stored_at, view_of};
 ghost use Rattle.levels.specs.Views.{graph_of};
 
 use crate::left::News;
-use crate::relation::{Link, refused_sum, way_within};
+use crate::relation::{Link, refused_sum};
 use crate::shelves::Shelves;
 use chunk_index::Tag;
 use cluster_store::Exchange;
 use component::Work;
-use graph_model::{Level, Limits, Refusal, TxId};
+use graph_model::{Level, Refusal, TxId};
 use outside::NoMemory;
-use record::Record;
 use step_count::{Ledger, Steps};
 
 impl<const W: usize> Shelves<W> {
     /// Why a name of the top level can't become a parent of another, other than for want of memory; or how the two stand.
-    pub fn refused_dep(&self, limits: &Limits, parent: TxId, child: TxId) -> Result<Link, Refusal>
-        requires order { IsInOrder W self.now }
-        requires limit { limits.now.count ≤ 64 * W }
-        ensures row { MatchResult result (λ _. DepRefusalIs limits.now (graph_of (view_of Top self.now)) parent child None)
-            (λ why. DepRefusalIs limits.now (graph_of (view_of Top self.now)) parent child (Some why)) }
-        ensures link { IfOk result (IsLink W self.now parent child) }
+    pub fn refused_dep(&mut self, parent: TxId, child: TxId) -> Result<Link, Refusal>
+        requires order { IsInOrder W self.old }
+        requires few { HaveFew self.old }
+        ensures row { MatchResult result (λ _. DepRefusalIs self.old.limits (graph_of (view_of Top self.old)) parent child None)
+            (λ why. DepRefusalIs self.old.limits (graph_of (view_of Top self.old)) parent child (Some why)) }
+        ensures link { IfOk result (IsLink self.old parent child) }
+        ensures same { self.new ≡ self.old }
     {
         let Some(above) = self.number(Level::Top, parent) else {
             return Err(Refusal::Unknown(parent));
@@ -40,17 +41,31 @@ impl<const W: usize> Shelves<W> {
         let Some(below) = self.number(Level::Top, child) else {
             return Err(Refusal::Unknown(child));
         };
-        let first = self.at(above);
         if above == below {
-            return way_within(first, above, parent, child);
+            return self.way_within(above, parent, child);
         }
-        match refused_sum(limits, first, self.at(below)) {
+        match refused_sum(&self.limits, self.at(above), self.at(below)) {
             Some(why) => Err(why),
             None => Ok(self.between(above, below)),
         }
     }
 
-    // How two names of the top level stand whose clusters have these numbers, together no more names than may be.
+    // How two names of the cluster of a number stand.
+    fn way_within(&mut self, number: usize, parent: TxId, child: TxId) -> Result<Link, Refusal>
+        requires { (c : records.Cluster) × (stored_at self.old.store.clusters number ≡ Some c) × Contains c.names parent × Contains c.names child }
+        ensures way { (c : records.Cluster) → stored_at self.old.store.clusters number ≡ Some c → IsWithin c number parent child result }
+        ensures same { self.new ≡ self.old }
+    {
+        if self.reaches(number, child, parent) {
+            return Err(Refusal::Cycle);
+        }
+        if self.reaches(number, parent, child) {
+            return Ok(Link::There);
+        }
+        Ok(Link::Within(number))
+    }
+
+    // How two names of the top level stand whose clusters have these numbers.
     fn between(&self, above: usize, below: usize) -> Link
         requires order { IsInOrder W self.now }
         requires above { IsSome (stored_at self.now.store.clusters above) }
@@ -95,11 +110,11 @@ impl<const W: usize> Shelves<W> {
         steps: &mut Steps<L>,
     ) -> Result<News<W>, NoMemory>
         requires order { IsInOrder W self.now }
-        requires link { IsLink W self.now parent child (Link.Within number) }
+        requires link { IsLink self.now parent child (Link.Within number) }
         ensures linked { IfOk result (λ news. PairsIn W (number ∷ []) parent child news.rest.items news.last news.kept self.now) }
         ensures steps { (ids : List ℕ)
             → Lists (λ q. AreLinked (graph_of (view_of Top self.now)) q parent ⊎ AreLinked (graph_of (view_of Top self.now)) q child) ids
-            → GrowsWithin (most_steps (length ids)) steps.old steps.new }
+            → GrowsWithin (most_steps_fit self.now.limits (graph_of (view_of Top self.now)) ids) steps.old steps.new }
     {
         let cluster = self.at(number);
         let changed = cluster.linked(self.alloc, parent, child, work, steps)?;
@@ -107,7 +122,7 @@ impl<const W: usize> Shelves<W> {
         let rest = Vec::new(self.alloc);
         Ok(News {
             rest,
-            last: Some(Record::within(changed)),
+            last: Some(changed),
             kept,
         })
     }
@@ -123,19 +138,29 @@ impl<const W: usize> Shelves<W> {
         steps: &mut Steps<L>,
     ) -> Result<News<W>, NoMemory>
         requires order { IsInOrder W self.now }
-        requires link { IsLink W self.now parent child (Link.Between first second) }
+        requires few { HaveFew self.now }
+        requires link { IsLink self.now parent child (Link.Between first second) }
         ensures joined { IfOk result (λ news. PairsIn W (first ∷ second ∷ []) parent child news.rest.items news.last news.kept self.now) }
         ensures steps { (ids : List ℕ)
             → Lists (λ q. AreLinked (graph_of (view_of Top self.now)) q parent ⊎ AreLinked (graph_of (view_of Top self.now)) q child) ids
-            → GrowsWithin (most_steps (length ids)) steps.old steps.new }
+            → GrowsWithin (most_steps_fit self.now.limits (graph_of (view_of Top self.now)) ids) steps.old steps.new }
     {
         let one = self.at(first);
         let kept = one.names().len();
-        let joined = one.joined(self.alloc, self.at(second), parent, child, work, steps)?;
+        let other = self.at(second);
+        let joined = one.joined(
+            self.alloc,
+            other,
+            parent,
+            child,
+            &self.limits,
+            work,
+            steps,
+        )?;
         let rest = Vec::new(self.alloc);
         Ok(News {
             rest,
-            last: Some(Record::within(joined)),
+            last: Some(joined),
             kept,
         })
     }
@@ -163,11 +188,13 @@ impl<const W: usize> Shelves<W> {
         ensures err { OnErr result (self.new ≡ self.old) }
         ensures grew { steps.old ≤ steps.new }
         ensures shared { finmap.get (numbers_at Main self.old) id ≡ finmap.get (numbers_at Top self.old) id → (ids : List ℕ)
-            → Lists (AreLinked (graph_of (view_of Main self.old)) id) ids → GrowsWithin (most_steps (length ids)) steps.old steps.new }
+            → Lists (AreLinked (graph_of (view_of Main self.old)) id) ids
+            → GrowsWithin (most_steps_fit self.old.limits (graph_of (view_of Main self.old)) ids) steps.old steps.new }
         ensures steps { (mains tops : List ℕ) → Lists (AreLinked (graph_of (view_of Main self.old)) id) mains
             → Lists (AreLinked (graph_of (view_of Top self.old)) id) tops
-            → steps.new ≤ steps.old + steps_where (is_some (finmap.get (numbers_at Main self.old) id)) (length mains)
-            + steps_where (is_some (finmap.get (numbers_at Top self.old) id)) (length tops) }
+            → steps.new ≤ steps.old
+            + steps_where (is_some (finmap.get (numbers_at Main self.old) id)) self.old.limits (graph_of (view_of Main self.old)) mains
+            + steps_where (is_some (finmap.get (numbers_at Top self.old) id)) self.old.limits (graph_of (view_of Top self.old)) tops }
     {
         let (first, second) = self.numbers_of(id);
         if self.at(first).rate(id).fee == fee {
@@ -231,9 +258,9 @@ impl<const W: usize> Shelves<W> {
         ensures number { IfOk result (λ x. x.number ≡ number) }
         ensures priced { IfOk result (λ x. IsPriced W id fee x self.now) }
         ensures steps { (c : records.Cluster) → stored_at self.now.store.clusters number ≡ Some c
-            → GrowsWithin (most_steps (length c.names)) steps.old steps.new }
+            → GrowsWithin (most_steps_again c) steps.old steps.new }
     {
         let changed = self.at(number).with_fee(self.alloc, id, fee, work, steps)?;
-        Ok(Exchange::new(number, Record::within(changed)))
+        Ok(Exchange::new(number, changed))
     }
 }

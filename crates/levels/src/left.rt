@@ -3,16 +3,16 @@ ghost use Rattle.std.specs.Prelude.{◌≡◌, ◌≢◌, ◌↔◌, ◌++◌, �
 ghost use Rattle.std.specs.List.Sorted.{IsPermutation};
 ghost use Rattle.std.specs.FinMap as finmap;
 ghost use Rattle.graphs.specs.declared.names.Level.TheVariants.{Top};
-ghost use Rattle.cluster.specs.Clusters.{IsCluster};
 ghost use Rattle.cluster.specs.Clusters as records;
 ghost use Rattle.cluster.specs.Changes.{AreComponents, IsSplit};
-ghost use Rattle.cluster.specs.Steps.{most_steps_of};
+ghost use Rattle.record.specs.Records.{IsFitted};
+ghost use Rattle.record.specs.Steps.{most_steps_fit_of};
 ghost use Rattle.levels.specs.Lefts.{AreLeft, AreListed, AreNumbered, DropsWithin, IsRun, Takes};
-ghost use Rattle.levels.specs.Shelves.{IsInOrder, numbers_at, seen_at, view_of};
+ghost use Rattle.levels.specs.Shelves.{HaveFew, IsInOrder, numbers_at, seen_at, view_of};
 ghost use Rattle.levels.specs.Views.{graph_of};
 
 use crate::shelves::Shelves;
-use component::{Component, Work};
+use component::Work;
 use graph_model::{Level, TxId};
 use outside::NoMemory;
 use record::Record;
@@ -46,9 +46,10 @@ impl<const W: usize> Shelves<W> {
         steps: &mut Steps<L>,
     ) -> Result<Left<W>, NoMemory>
         requires order { IsInOrder W self.now }
+        requires few { HaveFew self.now }
         requires live { (id : ℕ) → Contains ids.now id → IsSome (finmap.get (numbers_at Top self.now) id) }
         ensures left { IfOk result (λ left. AreLeft W ids.now left.outs.items left.rest.items left.last self.now) }
-        ensures steps { DropsWithin ids.now (graph_of (view_of Top self.now)) steps.old steps.new }
+        ensures steps { DropsWithin self.now.limits ids.now (graph_of (view_of Top self.now)) steps.old steps.new }
     {
         let listed = self.by_cluster(ids)?;
         let mut left = Left {
@@ -109,21 +110,22 @@ impl<const W: usize> Shelves<W> {
         steps: &mut Steps<L>,
     ) -> Result<(), NoMemory>
         requires order { IsInOrder W self.now }
+        requires few { HaveFew self.now }
         requires run { IsRun self.now number run.now }
         ensures left { OnOk result ((c : records.Cluster) × (pieces : List records.Cluster)
             × (seen_at Top self.now.store.clusters number ≡ Some c)
-            × IsSplit c.graph (map (λ e. e.1) run.now) pieces × All (IsCluster (64 * W)) pieces
+            × IsSplit c.graph (map (λ e. e.1) run.now) pieces × All (IsFitted (64 * W) self.now.limits) pieces
             × Takes number pieces left.old.outs.items left.old.rest.items left.old.last left.new.outs.items left.new.rest.items left.new.last) }
         ensures grew { steps.old ≤ steps.new }
         ensures steps { (c : records.Cluster) (lists : List (List ℕ)) → seen_at Top self.now.store.clusters number ≡ Some c
-            → AreComponents c.graph (map (λ e. e.1) run.now) lists → steps.new ≤ steps.old + most_steps_of lists }
+            → AreComponents c.graph (map (λ e. e.1) run.now) lists → steps.new ≤ steps.old + most_steps_fit_of self.now.limits c.graph lists }
     {
         let names = names_of(self.alloc, run)?;
+        let ids = names.as_slice();
         let pieces = self
             .at(number)
-            .without(self.alloc, names.as_slice(), work, steps)?;
-        let records = records_of(self.alloc, pieces.into_vec())?;
-        left.take(number, records)
+            .without(self.alloc, ids, &self.limits, work, steps)?;
+        left.take(number, pieces)
     }
 }
 
@@ -145,21 +147,6 @@ impl<const W: usize> Left<W> {
         self.rest = pieces;
         Ok(())
     }
-}
-
-// The records of components, in the same order.
-fn records_of<const W: usize>(
-    alloc: Global,
-    components: Vec<Component<W>>,
-) -> Result<Vec<Record<W>>, NoMemory>
-    requires { W ≤ 2 }
-    ensures { IfOk result (λ records. records.items ≡ components.entry.items) }
-{
-    let mut records = Vec::with_capacity(alloc, components.len())?;
-    for component in components {
-        records.push_reserved(Record::within(component));
-    }
-    Ok(records)
 }
 
 // How many entries at the front have the number of the first.

@@ -1,4 +1,4 @@
-ghost use Rattle.std.specs.Prelude.{◌≡◌, ◌≢◌, ◌⊎◌, ℕ, ◌+◌, ◌-◌, ◌*◌, ◌^◌, ◌<◌, ◌≤◌, false, true, cond, None, Some, List, ◌∷◌, [], length, is_some, map, Contains, IsSome, IfOk, IfErr, OnOk, OnErr, MatchOption, MatchResult};
+ghost use Rattle.std.specs.Prelude.{◌≡◌, ◌≢◌, ◌⊎◌, ℕ, ◌+◌, ◌-◌, ◌*◌, ◌^◌, ◌<◌, ◌≤◌, false, true, cond, None, Some, List, ◌∷◌, [], length, is_some, map, Contains, IsSome, IfOk, IfErr, OnOk, OnErr, MatchOption, MatchResult, IsTrue, ◌↔◌};
 ghost use Rattle.std.specs.FinMap as finmap;
 ghost use Rattle.fee_rate.specs.Limits.{IsFee, IsRate};
 ghost use Rattle.fee_rate.specs.declared.limits.TheConstants.{MAX_TOTAL};
@@ -9,13 +9,16 @@ ghost use Rattle.graphs.specs.declared.names.Level.TheVariants.{Main, Top};
 ghost use Rattle.graph_model.specs.declared.names.Refusal.TheVariants.{Memory};
 ghost use Rattle.graph_model.specs.Answers.{order_of, StandsTo};
 ghost use Rattle.cluster.specs.Clusters.{IsCluster};
-ghost use Rattle.cluster.specs.Steps.{GrowsWithin, most_steps};
+ghost use Rattle.cluster.specs.Steps.{GrowsWithin};
+ghost use Rattle.record.specs.Steps.{most_steps_fit};
+ghost use Rattle.graph_model.specs.Limits.{AreInRange, bounds_of};
+ghost use Rattle.levels.specs.Oversize.{IsOversized};
 ghost use Rattle.cluster_store.specs.Held.{Held};
 ghost use Rattle.cluster_store.specs.Lent.{lent};
 ghost use Rattle.diagram.specs.Parts.{AreLevelParts, YieldsParts};
 ghost use Rattle.levels.specs.Held.{IsHeldIn};
 ghost use Rattle.levels.specs.Orders.{ComparesParts, ListsCovers, sums_of};
-ghost use Rattle.levels.specs.Levels.{AddsName, ChangesTop, GrowsForFee, IsBest, IsLive, LosesNames, MayCome, SetsFeeIn, level_at, no_names};
+ghost use Rattle.levels.specs.Levels.{AddsName, ChangesTop, GrowsForFee, IsBest, IsLive, IsWithin, LosesNames, MayCome, SetsFeeIn, level_at, no_names};
 ghost use Rattle.levels.specs.Joins.{DepRefusalIs};
 ghost use Rattle.levels.specs.Lefts.{DropsWithin};
 ghost use Rattle.levels.specs.Levels as specs_levels;
@@ -31,6 +34,7 @@ use crate::shelves::Shelves;
 use cluster::PartRef;
 use cluster_store::{HeldWalk, PartWalk, RateWalk, Stored};
 use component::{Component, Covers, Work};
+use fee_rate::FeeRate;
 use graph_model::{Level, Limits, Place, Refusal, TxId, Verdict};
 use name_book::NameBook;
 use outside::NoMemory;
@@ -68,16 +72,17 @@ impl<const W: usize> Model for Levels<W> {
 }
 
 impl<const W: usize> Levels<W> {
-    /// No name and no staging, with the room in which orders are made and lists of names are tested.
-    pub fn new(alloc: Global) -> Result<Self, NoMemory>
+    /// No name and no staging, under these limits, with the room in which orders are made and lists of names are tested.
+    pub fn new(alloc: Global, limits: Limits) -> Result<Self, NoMemory>
         requires wide { 1 ≤ W }
         requires narrow { W ≤ 2 }
-        ensures { IfOk result (λ levels. levels ≡ no_names) }
+        requires in_range { AreInRange (64 * W) (bounds_of limits) }
+        ensures { IfOk result (λ levels. levels ≡ no_names limits) }
     {
         let work = Work::new(alloc)?;
         let repeats = Repeats::new(alloc)?;
         Ok(Levels {
-            shelves: Shelves::new(alloc),
+            shelves: Shelves::new(alloc, limits),
             rings: NameBook::new(alloc),
             mains: 0,
             tops: 0,
@@ -85,6 +90,36 @@ impl<const W: usize> Levels<W> {
             repeats,
             work,
         })
+    }
+
+    /// The limits in force.
+    pub fn limits(&self) -> Limits
+        ensures limits { result ≡ self.now.limits }
+        ensures in_range { AreInRange (64 * W) (bounds_of result) }
+    {
+        let _count = self.mains;
+        self.shelves.limits
+    }
+
+    /// Sets the limits, where no level has a name and there is no staging. Takes no memory.
+    pub fn set_limits(&mut self, limits: Limits)
+        requires none { (id : ℕ) → is_member self.old.main.graph id ≡ false }
+        requires alone { self.old.staging ≡ None }
+        requires in_range { AreInRange (64 * W) (bounds_of limits) }
+        ensures set { self.new ≡ record self.old { limits = limits } }
+        ensures kept { KeepsPicks self.old self.new }
+    {
+        let _count = self.mains;
+        self.shelves.set_limits(limits);
+    }
+
+    /// Whether a component of a level is over the limits, so that the level has no order. Takes no memory, and costs nothing where no
+    /// component of either level is.
+    pub fn oversized(&self, level: Level) -> bool
+        ensures { IsTrue result ↔ IsOversized self.now.limits (level_at self.now level).graph }
+    {
+        let _count = self.mains;
+        self.shelves.is_oversized(level)
     }
 
     /// How many names were added so far.
@@ -132,15 +167,28 @@ impl<const W: usize> Levels<W> {
         self.shelves.number(level, id).is_some()
     }
 
-    /// The cluster of a name in a level, or `None` where the level hasn't the name.
+    /// The fee in satoshis and the size in virtual bytes that a level has of a name, or `None` where it hasn't the name.
+    pub fn rate(&self, level: Level, id: TxId) -> Option<FeeRate>
+        ensures { MatchOption result (is_member (level_at self.now level).graph id ≡ false)
+            (λ rate. (is_member (level_at self.now level).graph id ≡ true) × (rate ≡ rate_of (level_at self.now level).graph id)) }
+    {
+        let _count = self.mains;
+        match self.shelves.number(level, id) {
+            Some(number) => Some(self.shelves.at(number).rate(id)),
+            None => None,
+        }
+    }
+
+    /// The cluster of a name in a level that isn't over the limits, or `None` where the level hasn't the name.
     pub fn find(&self, level: Level, id: TxId) -> Option<&Component<W>>
+        requires { IsWithin self.now level }
         ensures { MatchOption result (is_member (level_at self.now level).graph id ≡ false)
             (λ c. (is_member (level_at self.now level).graph id ≡ true)
             × IsClusterOf (level_at self.now level).graph id c.now × IsCluster (64 * W) c.now) }
     {
         let _count = self.mains;
         match self.shelves.number(level, id) {
-            Some(number) => Some(self.shelves.at(number)),
+            Some(number) => Some(self.shelves.ordered_at(number)),
             None => None,
         }
     }
@@ -179,28 +227,28 @@ impl<const W: usize> Levels<W> {
     /// Makes a name of the top level a parent of another. Where it is an ancestor already nothing changes, and no step is counted.
     ///
     /// Refused, by the first of these that holds: `Unknown` with the name where the parent or the child isn't in the top level,
-    /// `Cycle` where the child is an ancestor of the parent, `Count` and `ClusterSize`, with what the cluster would have, where the
-    /// pair would join two to one over a limit, `Memory` where there is none. All stays as it was then.
+    /// `Cycle` where the child is an ancestor of the parent, `Count` and `ClusterSize`, with what the cluster would have, where no
+    /// dependency may pass the limits and the pair would join two to one over a limit, `Memory` where there is none. All stays as it
+    /// was then.
     pub fn dep<L: Ledger>(
         &mut self,
-        limits: &Limits,
         parent: TxId,
         child: TxId,
         steps: &mut Steps<L>,
     ) -> Result<(), Refusal>
-        requires { limits.now.count ≤ 64 * W }
-        ensures row { MatchResult result (λ _. DepRefusalIs limits.now (level_at self.old Top).graph parent child None)
-            (λ why. ((why ≡ Memory) × DepRefusalIs limits.now (level_at self.old Top).graph parent child None)
-            ⊎ ((why ≢ Memory) × DepRefusalIs limits.now (level_at self.old Top).graph parent child (Some why))) }
+        ensures row { MatchResult result (λ _. DepRefusalIs self.old.limits (level_at self.old Top).graph parent child None)
+            (λ why. ((why ≡ Memory) × DepRefusalIs self.old.limits (level_at self.old Top).graph parent child None)
+            ⊎ ((why ≢ Memory) × DepRefusalIs self.old.limits (level_at self.old Top).graph parent child (Some why))) }
         ensures linked { OnOk result (ChangesTop (λ old new. AddsPair old new parent child) self.old self.new) }
         ensures same { IfErr result (λ why. (self.new ≡ self.old) × (why ≢ Memory → steps.new ≡ steps.old))
             × (is_ancestor (level_at self.old Top).graph parent child ≡ true → (self.new ≡ self.old) × (steps.new ≡ steps.old)) }
         ensures kept { KeepsPicks self.old self.new }
         ensures steps { (ids : List ℕ)
             → Lists (λ q. AreLinked (level_at self.old Top).graph q parent ⊎ AreLinked (level_at self.old Top).graph q child) ids
-            → GrowsWithin (most_steps (length ids)) steps.old steps.new }
+            → GrowsWithin (most_steps_fit self.old.limits (level_at self.old Top).graph ids) steps.old steps.new }
     {
-        let link = self.shelves.refused_dep(limits, parent, child)?;
+        let _count = self.mains;
+        let link = self.shelves.refused_dep(parent, child)?;
         match connect(
             &mut self.shelves,
             &mut self.rings,
@@ -245,7 +293,7 @@ impl<const W: usize> Levels<W> {
         ensures dropped { OnOk result (ChangesTop (λ old new. DropsPlace old new id) self.old self.new) }
         ensures kept { KeepsPicks self.old self.new }
         ensures err { OnErr result (self.new ≡ self.old) }
-        ensures steps { DropsWithin (id ∷ []) (level_at self.old Top).graph steps.old steps.new }
+        ensures steps { DropsWithin self.old.limits (id ∷ []) (level_at self.old Top).graph steps.old steps.new }
     {
         self.drop_names(&[id], steps)
     }
@@ -262,7 +310,7 @@ impl<const W: usize> Levels<W> {
         ensures dropped { OnOk result (ChangesTop (λ old new. LosesNames old new ids.now) self.old self.new) }
         ensures kept { KeepsPicks self.old self.new }
         ensures err { OnErr result (self.new ≡ self.old) }
-        ensures steps { DropsWithin ids.now (level_at self.old Top).graph steps.old steps.new }
+        ensures steps { DropsWithin self.old.limits ids.now (level_at self.old Top).graph steps.old steps.new }
     {
         drop_names(
             &mut self.shelves,
@@ -285,7 +333,7 @@ impl<const W: usize> Levels<W> {
         ensures same { self.new ≡ self.old }
     {
         let _count = self.mains;
-        refused_mine(&self.shelves, &mut self.rings, &mut self.repeats, ids)
+        refused_mine(&mut self.shelves, &mut self.rings, &mut self.repeats, ids)
     }
 
     /// Opens a staging that is as main is. Takes no memory.
@@ -320,8 +368,9 @@ impl<const W: usize> Levels<W> {
 
 impl<const W: usize> Levels<W> {
     /// The parts of a level in its order, from the first, each with the number of its cluster. Two parts have one number exactly
-    /// where they are of one cluster. Takes no memory.
+    /// where they are of one cluster. The level isn't over the limits. Takes no memory.
     pub fn parts(&self, level: Level) -> PartWalk<'_, Stored<W>>
+        requires { IsWithin self.now level }
         ensures parts { map (λ s. s.part) result ≡ (level_at self.now level).parts }
         ensures numbers { HaveClusterNumbers (level_at self.now level).graph result }
         ensures best { IsBest (level_at self.now level) }
@@ -335,6 +384,7 @@ impl<const W: usize> Levels<W> {
 
     /// The same parts, each with its cluster. Sets of names have at most two words. Takes no memory.
     pub fn held(&self, level: Level) -> HeldWalk<'_, W>
+        requires { IsWithin self.now level }
         ensures parts { map (λ h. h.part) result ≡ (level_at self.now level).parts }
         ensures clusters { (h : Held) → Contains result h → IsHeldIn (level_at self.now level) h }
         ensures narrow { W ≤ 2 }
@@ -363,8 +413,9 @@ impl<const W: usize> Levels<W> {
         self.shelves.rates(level)
     }
 
-    /// The part of main that has a name, or `None` where main hasn't the name. Takes no memory.
+    /// The part of main that has a name, or `None` where main hasn't the name. Main isn't over the limits. Takes no memory.
     pub fn chunk(&self, id: TxId) -> Option<PartRef<'_>>
+        requires { IsWithin self.now Main }
         ensures { MatchOption result (is_member self.now.main.graph id ≡ false)
             (λ part. (is_member self.now.main.graph id ≡ true) × Contains self.now.main.parts (lent part)
             × Contains (lent part).ids id) }
@@ -375,6 +426,7 @@ impl<const W: usize> Levels<W> {
 
     /// Where one name of main stands to another in its order. Takes no memory.
     pub fn place(&self, a: TxId, b: TxId) -> Place
+        requires within { IsWithin self.now Main }
         requires a { is_member self.now.main.graph a ≡ true }
         requires b { is_member self.now.main.graph b ≡ true }
         ensures { StandsTo (order_of self.now.main.parts) a b result }
@@ -385,7 +437,8 @@ impl<const W: usize> Levels<W> {
 
     /// The parents of a name of a level with nothing between, as they stand in its order. Takes no memory.
     pub fn covers(&self, level: Level, id: TxId) -> Covers<'_, W>
-        requires { is_member (level_at self.now level).graph id ≡ true }
+        requires within { IsWithin self.now level }
+        requires live { is_member (level_at self.now level).graph id ≡ true }
         ensures { ListsCovers (level_at self.now level).graph (order_of (level_at self.now level).parts) id result }
     {
         let _count = self.mains;
@@ -393,9 +446,10 @@ impl<const W: usize> Levels<W> {
     }
 
     /// How staging stands to main, by their diagrams. It costs the parts that stand in one level alone, where the last part of each
-    /// level that has one has a fee of at least 0, and else all parts. Takes no memory.
+    /// level that has one has a fee of at least 0, and else all parts. Neither level is over the limits. Takes no memory.
     pub fn compare(&self) -> Verdict
-        requires { IsSome self.now.staging }
+        requires staged { IsSome self.now.staging }
+        requires within { IsWithin self.now Main × IsWithin self.now Top }
         ensures verdict { ComparesParts self.now.main.parts (level_at self.now Top).parts result }
         ensures rates { (level : graph_level.Level) (id : ℕ) → is_member (level_at self.now level).graph id ≡ true
             → IsRate (rate_of (level_at self.now level).graph id) }

@@ -11,7 +11,8 @@ ghost use Rattle.graphs.specs.Graphs.{Lists};
 ghost use Rattle.std.specs.List.{AllPairs};
 ghost use Rattle.cluster.specs.Clusters.{AreApart};
 ghost use Rattle.cluster.specs.Clusters as records;
-ghost use Rattle.cluster.specs.Steps.{GrowsWithin, most_steps};
+ghost use Rattle.cluster.specs.Steps.{GrowsWithin};
+ghost use Rattle.record.specs.Steps.{most_steps_fit};
 ghost use Rattle.name_book.specs.Books.{IsNamed};
 ghost use Rattle.name_book.specs.Calls.{Touches};
 ghost use Rattle.levels.specs.Changes.{AreAt};
@@ -21,14 +22,14 @@ ghost use Rattle.levels.specs.Lefts.{DropsWithin};
 ghost use Rattle.levels.specs.Links.{IsLink};
 ghost use Rattle.levels.specs.Moves.{AddsTop, Connects, DropsTop};
 ghost use Rattle.levels.specs.Rings.{AreNamedOnce, Fewer, Forgets, IsMarked, JoinsLast, LeftMain, LeftOf, ShareMain};
-ghost use Rattle.levels.specs.Shelves.{IsInOrder, numbers_at, stored_at, view_of};
+ghost use Rattle.levels.specs.Shelves.{HaveFew, IsInOrder, numbers_at, stored_at, view_of};
 ghost use Rattle.levels.specs.Tops.{Comes, IsMade};
 ghost use Rattle.levels.specs.Views.{graph_of};
 
 use crate::left::{Left, News};
 use crate::relation::Link;
 use crate::shelves::{Shelves, last_count};
-use component::{Component, Work};
+use component::Work;
 use graph_model::{Level, TxId};
 use name_book::NameBook;
 use outside::NoMemory;
@@ -50,6 +51,7 @@ pub(crate) fn add_name<const W: usize, L: Ledger>(
     requires right { SuitsShelf rings.old shelves.old }
     requires absent { IsNamed rings.old.book id → ⊥ }
     requires rate { IsRate (record { fee = fee; size = size }) }
+    requires fits { size ≤ shelves.old.limits.size }
     requires few { set.len rings.old.book.names < MAX_TOTAL }
     requires issued { rings.old.book.issued < 2 ^ 64 - 1 }
     ensures added { OnOk result (AddsTop W id (record { fee = fee; size = size }) shelves.old shelves.new) }
@@ -63,8 +65,8 @@ pub(crate) fn add_name<const W: usize, L: Ledger>(
 {
     rings.reserve(1)?;
     let alloc = shelves.alloc;
-    let cluster = Component::single(alloc, id, fee, size, work, steps)?;
-    shelves.rebuild(&[], Vec::new(alloc), Some(Record::within(cluster)), 0, &[])?;
+    let cluster = Record::single(alloc, id, fee, size, work, steps)?;
+    shelves.rebuild(&[], Vec::new(alloc), Some(cluster), 0, &[])?;
     rings.add(id, shelves.is_staged());
     Ok(())
 }
@@ -82,7 +84,8 @@ pub(crate) fn connect<const W: usize, L: Ledger>(
 ) -> Result<(), NoMemory>
     requires order { IsInOrder W shelves.old }
     requires right { SuitsShelf rings.old shelves.old }
-    requires link { IsLink W shelves.old parent child link }
+    requires few { HaveFew shelves.old }
+    requires link { IsLink shelves.old parent child link }
     ensures linked { OnOk result (Connects W parent child shelves.old shelves.new) }
     ensures still { is_ancestor (graph_of (view_of Top shelves.old)) parent child ≡ true
         → (shelves.new ≡ shelves.old) × (rings.new ≡ rings.old) × (steps.new ≡ steps.old) }
@@ -90,7 +93,7 @@ pub(crate) fn connect<const W: usize, L: Ledger>(
     ensures err { OnErr result ((shelves.new ≡ shelves.old) × (rings.new ≡ rings.old)) }
     ensures steps { (ids : List ℕ)
         → Lists (λ q. AreLinked (graph_of (view_of Top shelves.old)) q parent ⊎ AreLinked (graph_of (view_of Top shelves.old)) q child) ids
-        → GrowsWithin (most_steps (length ids)) steps.old steps.new }
+        → GrowsWithin (most_steps_fit shelves.old.limits (graph_of (view_of Top shelves.old)) ids) steps.old steps.new }
 {
     match link {
         Link::There => Ok(()),
@@ -115,12 +118,13 @@ pub(crate) fn drop_names<const W: usize, L: Ledger>(
 ) -> Result<(), NoMemory>
     requires order { IsInOrder W shelves.old }
     requires right { SuitsShelf rings.old shelves.old }
+    requires few { HaveFew shelves.old }
     requires live { (id : ℕ) → Contains ids.now id → IsSome (finmap.get (numbers_at Top shelves.old) id) }
     requires once { AreDistinct ids.now }
     ensures dropped { OnOk result ((outs : List ℕ) × DropsTop W outs ids.now shelves.old shelves.new) }
     ensures kept { IsInOrder W shelves.new × SuitsShelf rings.new shelves.new × Fewer rings.old rings.new }
     ensures err { OnErr result ((shelves.new ≡ shelves.old) × (rings.new ≡ rings.old)) }
-    ensures steps { DropsWithin ids.now (graph_of (view_of Top shelves.old)) steps.old steps.new }
+    ensures steps { DropsWithin shelves.old.limits ids.now (graph_of (view_of Top shelves.old)) steps.old steps.new }
 {
     let Left { outs, rest, last } = shelves.leave(ids, work, steps)?;
     let kept = last_count(&last);

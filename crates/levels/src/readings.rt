@@ -17,7 +17,8 @@ ghost use Rattle.levels.specs.Held.{IsHeldIn};
 ghost use Rattle.levels.specs.Levels.{IsBest};
 ghost use Rattle.levels.specs.Orders.{ComparesParts, ListsCovers, sums_of};
 ghost use Rattle.levels.specs.Places.{HasPart};
-ghost use Rattle.levels.specs.Shelves.{IsInOrder, numbers_at, one_of};
+ghost use Rattle.levels.specs.Oversize.{IsOversized};
+ghost use Rattle.levels.specs.Shelves.{HaveFew, IsInOrder, numbers_at, one_of};
 ghost use Rattle.levels.specs.Views.{HaveClusterNumbers};
 
 use crate::shelves::Shelves;
@@ -32,6 +33,7 @@ impl<const W: usize> Shelves<W> {
     /// have one number exactly where they are of one cluster.
     pub(crate) fn parts(&self, level: Level) -> PartWalk<'_, Stored<W>>
         requires order { IsInOrder W self.now }
+        requires within { IsOversized self.now.limits (one_of level self.now).graph → ⊥ }
         requires few { finmap.len (numbers_at level self.now) ≤ MAX_TOTAL }
         ensures parts { map (λ s. s.part) result ≡ (one_of level self.now).parts }
         ensures numbers { HaveClusterNumbers (one_of level self.now).graph result }
@@ -46,6 +48,7 @@ impl<const W: usize> Shelves<W> {
     /// The same parts, each with its cluster.
     pub(crate) fn held(&self, level: Level) -> HeldWalk<'_, W>
         requires order { IsInOrder W self.now }
+        requires within { IsOversized self.now.limits (one_of level self.now).graph → ⊥ }
         ensures parts { map (λ h. h.part) result ≡ (one_of level self.now).parts }
         ensures clusters { (h : Held) → Contains result h → IsHeldIn (one_of level self.now) h }
     {
@@ -71,13 +74,14 @@ impl<const W: usize> Shelves<W> {
     /// The part of main that has a name, or `None` where main hasn't the name.
     pub(crate) fn chunk(&self, id: TxId) -> Option<PartRef<'_>>
         requires order { IsInOrder W self.now }
+        requires within { IsOversized self.now.limits (one_of Main self.now).graph → ⊥ }
         ensures { MatchOption result (is_member (one_of Main self.now).graph id ≡ false)
             (λ part. (is_member (one_of Main self.now).graph id ≡ true) × Contains (one_of Main self.now).parts (lent part)
             × Contains (lent part).ids id) }
     {
         match self.number(Level::Main, id) {
             Some(number) => {
-                let cluster = self.at(number);
+                let cluster = self.ordered_at(number);
                 Some(cluster.part(cluster.part_of(id)))
             }
             None => None,
@@ -87,6 +91,7 @@ impl<const W: usize> Shelves<W> {
     /// Where one name of main stands to another in its order.
     pub(crate) fn place(&self, a: TxId, b: TxId) -> Place
         requires order { IsInOrder W self.now }
+        requires within { IsOversized self.now.limits (one_of Main self.now).graph → ⊥ }
         requires a { is_member (one_of Main self.now).graph a ≡ true }
         requires b { is_member (one_of Main self.now).graph b ≡ true }
         ensures { StandsTo (order_of (one_of Main self.now).parts) a b result }
@@ -111,11 +116,12 @@ impl<const W: usize> Shelves<W> {
     // Where the part stands that has a name of main: the number of its cluster, and its position there.
     fn place_of(&self, id: TxId) -> (usize, usize)
         requires order { IsInOrder W self.now }
+        requires within { IsOversized self.now.limits (one_of Main self.now).graph → ⊥ }
         requires live { is_member (one_of Main self.now).graph id ≡ true }
         ensures { HasPart Main self.now result id }
     {
         let number = self.its_number(Level::Main, id);
-        (number, self.at(number).part_of(id))
+        (number, self.ordered_at(number).part_of(id))
     }
 
     // The part at a place of main that has one.
@@ -124,23 +130,25 @@ impl<const W: usize> Shelves<W> {
         requires there { (part : Part) × StandsAt Main self.now.store.clusters place part }
         ensures { StandsAt Main self.now.store.clusters place (lent result) }
     {
-        self.at(place.0).part(place.1)
+        self.ordered_at(place.0).part(place.1)
     }
 
     /// The parents of a name of a level with nothing between, as they stand in its order.
     pub(crate) fn covers(&self, level: Level, id: TxId) -> Covers<'_, W>
         requires order { IsInOrder W self.now }
+        requires within { IsOversized self.now.limits (one_of level self.now).graph → ⊥ }
         requires live { is_member (one_of level self.now).graph id ≡ true }
         ensures { ListsCovers (one_of level self.now).graph (order_of (one_of level self.now).parts) id result }
     {
-        self.at(self.its_number(level, id)).covers(id)
+        self.ordered_at(self.its_number(level, id)).covers(id)
     }
 
     /// How staging stands to main: the verdict of its parts' diagram over main's. Where the last part of each level has a fee of at
     /// least 0, the parts that stand in both levels aren't looked at but for the last one.
     pub(crate) fn compare(&self) -> Verdict
         requires order { IsInOrder W self.now }
-        requires few { (level : levels.Level) → finmap.len (numbers_at level self.now) ≤ MAX_TOTAL }
+        requires within { (level : levels.Level) → IsOversized self.now.limits (one_of level self.now).graph → ⊥ }
+        requires few { HaveFew self.now }
         ensures { ComparesParts (one_of Main self.now).parts (one_of Top self.now).parts result }
     {
         comparison::compare(self.store())

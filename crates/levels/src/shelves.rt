@@ -9,23 +9,33 @@ ghost use Rattle.levels.specs.Changes.{AreAt, Covers};
 ghost use Rattle.cluster_store.specs.Changes.{ExchangesEach};
 ghost use Rattle.levels.specs.Tops.{HasFront, HaveSameNames, IsMade};
 ghost use Rattle.levels.specs.Shelves.{IsInOrder, no_clusters, numbers_at, seen_at, stored_at, tag_at};
+ghost use Rattle.graph_model.specs.Limits.{AreInRange, bounds_of};
+ghost use Rattle.graphs.specs.Closures.{is_ancestor};
+ghost use Rattle.record.specs.Records.{IsFitted};
+ghost use Rattle.cluster_store.specs.Unordered.{LacksOrder};
+ghost use Rattle.name_book.specs.Books.{IsNamed};
+ghost use Rattle.levels.specs.Mining.{LacksTouched};
 
+use crate::mining::Touched;
 use crate::numbers::{number_of, point_all, point_last, unpoint};
 use crate::stored::{at, tag_of};
 use chunk_index::Tag;
 use cluster_store::{ClusterStore, Exchange, Made};
 use component::Component;
-use graph_model::{Level, TxId};
+use graph_model::{Level, Limits, TxId};
+use name_book::NameBook;
 use outside::NoMemory;
 use record::Record;
 use staging::Overlay;
 use std::alloc::Global;
 use std::marker::Model;
 
-/// The clusters of both levels, each under a number, and for each level the number of each name's cluster.
+/// The clusters of both levels, each under a number, and for each level the number of each name's cluster. A cluster within the limits
+/// has its order, and one over them has none.
 #[derive(Drop)]
 pub struct Shelves<const W: usize> {
     pub(crate) alloc: Global,
+    pub(crate) limits: Limits,
     numbers: Overlay<usize>,
     store: ClusterStore<W>,
 }
@@ -37,21 +47,23 @@ impl<const W: usize> Model for Shelves<W> {
 
     ghost coded = { shelf_code };
 
-    ghost view = { λ a. record { main = a.numbers.base; staging = a.numbers.top; store = a.store } };
+    ghost view = { λ a. record { limits = a.limits; main = a.numbers.base; staging = a.numbers.top; store = a.store } };
 
-    ghost invariant = { λ a. IsInOrder W (record { main = a.numbers.base; staging = a.numbers.top; store = a.store }) };
+    ghost invariant = { λ a. IsInOrder W (record { limits = a.limits; main = a.numbers.base; staging = a.numbers.top; store = a.store }) };
 }
 
 impl<const W: usize> Shelves<W> {
     /// No cluster and no name. Takes no memory.
-    pub fn new(alloc: Global) -> Self
+    pub fn new(alloc: Global, limits: Limits) -> Self
         requires wide { 1 ≤ W }
         requires narrow { W ≤ 2 }
-        ensures empty { result ≡ no_clusters }
+        requires in_range { AreInRange (64 * W) (bounds_of limits) }
+        ensures empty { result ≡ no_clusters limits }
         ensures order { IsInOrder W result }
     {
         Shelves {
             alloc,
+            limits,
             numbers: Overlay::new(alloc),
             store: ClusterStore::new(alloc),
         }
@@ -75,17 +87,67 @@ impl<const W: usize> Shelves<W> {
         number_of(&self.numbers, level, id)
     }
 
+    /// Sets the limits, where there is no cluster.
+    pub fn set_limits(&mut self, limits: Limits)
+        requires none { (number : ℕ) → stored_at self.old.store.clusters number ≡ None }
+        requires in_range { AreInRange (64 * W) (bounds_of limits) }
+        ensures set { self.new ≡ record self.old { limits = limits } }
+        ensures order { IsInOrder W self.new }
+    {
+        let _numbers = &self.numbers;
+        let _store = &self.store;
+        self.limits = limits;
+    }
+
     /// The cluster of a number that has one.
-    pub fn at(&self, number: usize) -> &Component<W>
+    pub fn at(&self, number: usize) -> &Record<W>
         requires { IsSome (stored_at self.now.store.clusters number) }
         ensures { stored_at self.now.store.clusters number ≡ Some result.now }
     {
         let _numbers = &self.numbers;
-        match at(&self.store, number).component() {
+        at(&self.store, number)
+    }
+
+    /// The cluster of a number that has one with its order.
+    pub fn ordered_at(&self, number: usize) -> &Component<W>
+        requires { (c : records.Cluster) × (stored_at self.now.store.clusters number ≡ Some c) × (c.parts ≢ []) }
+        ensures { stored_at self.now.store.clusters number ≡ Some result.now }
+    {
+        match self.at(number).component() {
             Some(cluster) => cluster,
-            // what stands in a level has its order
             None => unreachable!(),
         }
+    }
+
+    /// Whether a name of a cluster is an ancestor of another. The cluster has both. Takes no memory.
+    pub fn reaches(&mut self, number: usize, a: TxId, b: TxId) -> bool
+        requires { (c : records.Cluster) × (stored_at self.old.store.clusters number ≡ Some c) × Contains c.names a × Contains c.names b }
+        ensures ancestor { (c : records.Cluster) → stored_at self.old.store.clusters number ≡ Some c → result ≡ is_ancestor c.graph a b }
+        ensures same { self.new ≡ self.old }
+    {
+        let _numbers = &self.numbers;
+        self.store.reaches(number, a, b)
+    }
+
+    /// Whether a name of a cluster has an ancestor that isn't touched. The cluster has the name. Takes no memory.
+    pub fn lacks_touched(&mut self, number: usize, rings: &NameBook, id: TxId) -> bool
+        requires here { (c : records.Cluster) × (stored_at self.old.store.clusters number ≡ Some c) × Contains c.names id }
+        requires named { (c : records.Cluster) (a : ℕ) → stored_at self.old.store.clusters number ≡ Some c → Contains c.names a
+            → IsNamed rings.now.book a }
+        ensures lacks { (c : records.Cluster) → stored_at self.old.store.clusters number ≡ Some c
+            → IsTrue result ↔ LacksTouched c.graph rings.now id }
+        ensures same { self.new ≡ self.old }
+    {
+        let _numbers = &self.numbers;
+        self.store.lacks(number, id, &Touched { rings })
+    }
+
+    /// Whether a cluster of a level is over the limits. Takes no memory, and costs nothing where none is.
+    pub fn is_oversized(&self, level: Level) -> bool
+        ensures { IsTrue result ↔ LacksOrder level self.now.store.clusters }
+    {
+        let _numbers = &self.numbers;
+        self.store.lacks_order(level)
     }
 
     /// The clusters under their numbers, and the parts of all of them in one order.
@@ -128,6 +190,7 @@ impl<const W: usize> Shelves<W> {
         requires comes { (olds : List records.Cluster) × AreAt (seen_at Top self.old.store.clusters) outs.now olds
             × Covers (64 * W) olds (rest.items ++ option_to_list last) gone.now (numbers_at Top self.old) }
         requires kept { IfSome last (λ c. HasFront kept outs.now c.names (numbers_at Top self.old)) }
+        requires fitted { (c : records.Cluster) → Contains (rest.items ++ option_to_list last) c → IsFitted (64 * W) self.old.limits c }
         requires order { IsInOrder W self.old }
         ensures rebuilt { IfOk result (λ made. IsMade W outs.now made.rest.items made.last rest.entry.items last.entry gone.now self.old self.new) }
         ensures err { OnErr result (self.new ≡ self.old) }
@@ -149,7 +212,7 @@ impl<const W: usize> Shelves<W> {
     pub(crate) fn exchange(&mut self, exchanged: Vec<Exchange<W>>) -> Result<(), NoMemory>
         requires same { HaveSameNames W exchanged.items self.old }
         ensures exchanged { OnOk result (ExchangesEach exchanged.entry.items self.old.store.clusters self.new.store.clusters) }
-        ensures numbers { (self.new.main ≡ self.old.main) × (self.new.staging ≡ self.old.staging) }
+        ensures numbers { (self.new.main ≡ self.old.main) × (self.new.staging ≡ self.old.staging) × (self.new.limits ≡ self.old.limits) }
         ensures err { OnErr result (self.new ≡ self.old) }
         ensures order { IsInOrder W self.new }
     {
@@ -175,6 +238,7 @@ impl<const W: usize> Shelves<W> {
         requires { IsSome self.old.staging }
         ensures main { self.new.main ≡ numbers_at stays self.old }
         ensures staging { self.new.staging ≡ None }
+        ensures limits { self.new.limits ≡ self.old.limits }
         ensures seen { (n : ℕ) → seen_at Main self.new.store.clusters n ≡ seen_at stays self.old.store.clusters n }
         ensures order { IsInOrder W self.new }
     {

@@ -1,12 +1,9 @@
-ghost use Rattle.std.specs.Prelude.{◌≡◌, ◌≤◌, ◌*◌, ◌↔◌, true, false, Some, [], ◌∷◌, IsSome, IfOk, vec_capacity};
-ghost use Rattle.chunk_index.specs.declared.entry.Tag.TheVariants.{Both};
+ghost use Rattle.std.specs.Prelude.{◌≡◌, Some, IsSome};
 ghost use Rattle.levels.specs.Shelves.{stored_at, tag_at};
 
 use chunk_index::Tag;
-use cluster_store::{ClusterStore, Exchange};
-use outside::NoMemory;
+use cluster_store::ClusterStore;
 use record::Record;
-use std::alloc::Global;
 
 /// The cluster of a number that has one.
 pub(crate) fn at<const W: usize>(store: &ClusterStore<W>, number: usize) -> &Record<W>
