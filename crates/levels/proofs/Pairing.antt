@@ -10,7 +10,8 @@ use Rattle.lists.specs.Distinct.{AreDistinct}
 use Rattle.lists.proofs.Entries.{Contains-head, Contains-later, Contains-cases, none_in_empty}
 use Rattle.graphs.specs.declared.names.Level.TheVariants.{Top}
 use Rattle.graphs.specs.Closures.{is_ancestor, is_member, rate_of, AddsPair}
-use Rattle.cluster.specs.Clusters.{Cluster, IsCluster}
+use Rattle.cluster.specs.Clusters.{Cluster}
+use Rattle.record.specs.Records.{IsConnected}
 use Rattle.cluster.specs.Changes.{AreAcross, IsAncestorIn, Joins, is_above}
 use Rattle.levels.specs.Changes.{AreAt, Covers, IsNamed}
 use Rattle.levels.specs.Moves.{AddsPairIn, PairsIn, PairsTop}
@@ -67,7 +68,7 @@ module _ (p q : ℕ) (was now : Cluster) (names : now.names ≡ was.names) (pair
 
 -- ---- what two clusters say
 
-module _ (most p q : ℕ) (one other now : Cluster) (one_whole : IsCluster most one) (other_whole : IsCluster most other)
+module _ (p q : ℕ) (one other now : Cluster) (one_whole : IsConnected one) (other_whole : IsConnected other)
     (names : now.names ≡ one.names ++ other.names) (joins : Joins one.graph other.graph p q now.graph) (across : AreAcross one.names other.names p q) where
   abbrev both : List Cluster
   both = one ∷ other ∷ []

@@ -9,7 +9,7 @@ use Rattle.graphs.specs.Closures.{is_ancestor, IsCover}
 use Rattle.graphs.specs.Linearizations.{StandsBefore}
 use Rattle.graphs.specs.Merges.{Precedes}
 use Rattle.graphs.proofs.MergeLemmas.{stands_within}
-use Rattle.cluster.specs.Clusters.{Cluster, IsCluster}
+use Rattle.cluster.specs.Clusters.{Cluster}
 use Rattle.cluster.specs.Covers.{ListsInOrder}
 use Rattle.cluster_store.specs.Laws.{Stands, StandsAt, PartsStandInOrder}
 use Rattle.cluster_store.specs.Stores.{Stored, Numbered}
@@ -101,7 +101,7 @@ module _ (w : ℕ) (shelf : Shelf) (order : IsInOrder w shelf) (level : Level) w
     -- an ancestor of a name of the cluster is one of its names
     above_here : (m : ℕ) → is_ancestor c.graph m id ≡ true → Contains c.names m
     above_here m up =
-        let whole : IsCluster (64 * w) c = (indexed_at w shelf order level).whole number c is in
+        let whole = ((indexed_at w shelf order level).whole number c is).connected in
         (whole.members m).0 (whole.order.among m id up).0
 
     cover_out : (a : ℕ) → IsCover c.graph a id → IsCover (graph_of (view_of level shelf)) a id

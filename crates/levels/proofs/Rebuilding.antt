@@ -22,6 +22,8 @@ use Rattle.staging.specs.Maps.{Maps, top_of}
 use Rattle.levels.specs.Shelves.{AllHave, IsInOrder, seen_at, stored_at}
 use Rattle.levels.specs.Tops.{HasFront, IsMade, fresh_from}
 use Rattle.levels.specs.Views.{Numbers}
+use Rattle.graph_model.specs.declared.names.Limits.{Limits}
+use Rattle.record.specs.Records.{IsFitted}
 use Rattle.levels.proofs.Calls.{Turns, order_shifted, shelf_of, shifted}
 use Rattle.levels.proofs.Making.{Shifts, shifts}
 use Rattle.levels.proofs.Pointing.{drop_here, drop_other, names_in}
@@ -232,23 +234,24 @@ points_all most kept outs made None rest (Some c) gone olds old lost mid new t =
 points_all most kept outs made (Some k) rest None gone olds old lost mid new t =
     absurd (omega (arith, t.count, t.counts, length-append made (k ∷ []), length-append rest []))
 
-module _ (w kept : ℕ) (staged : Bool) (outs made : List ℕ) (number : Option ℕ) (rest : List Cluster) (last : Option Cluster) (gone : List ℕ)
+module _ (w kept : ℕ) (limits : Limits) (staged : Bool) (outs made : List ℕ) (number : Option ℕ) (rest : List Cluster) (last : Option Cluster) (gone : List ℕ)
     (olds : List Cluster) (a b : Maps ℕ) (lost mid : Numbers) (s t : Store) (turns : Turns a b) (is : staged ≡ is_some a.top)
     (changes : TopChanges staged outs made number rest last s.clusters t.clusters) (taken : AreAt (seen_at Top s.clusters) outs olds)
     (are : AreTurned (64 * w) kept outs made number rest last gone olds (top_of a) lost mid (top_of b)) where
-  shift : Shifts staged outs (made ++ option_to_list number) (rest ++ option_to_list last) (shelf_of a s) (shelf_of b t)
-  shift = shifted staged outs (made ++ option_to_list number) (rest ++ option_to_list last) a b s t turns is changes.exchanged
+  shift : Shifts staged outs (made ++ option_to_list number) (rest ++ option_to_list last) (shelf_of limits a s) (shelf_of limits b t)
+  shift = shifted limits staged outs (made ++ option_to_list number) (rest ++ option_to_list last) a b s t turns is changes.exchanged
 
-  pub is_made : IsMade w outs made number rest last gone (shelf_of a s) (shelf_of b t)
+  pub is_made : IsMade w outs made number rest last gone (shelf_of limits a s) (shelf_of limits b t)
   is_made = record {
     olds = olds;
-    rebuilds = shifts w staged outs (made ++ option_to_list number) olds (rest ++ option_to_list last) gone (shelf_of a s) (shelf_of b t) shift taken
+    rebuilds = shifts w staged outs (made ++ option_to_list number) olds (rest ++ option_to_list last) gone (shelf_of limits a s) (shelf_of limits b t) shift taken
         (points_all (64 * w) kept outs made number rest last gone olds (top_of a) lost mid (top_of b) are) are.covers;
     count = changes.count;
   }
 
-  pub order_made : IsInOrder w (shelf_of a s) → IsStore (64 * w) t → IsInOrder w (shelf_of b t)
+  pub order_made : IsInOrder w (shelf_of limits a s)
+      → ((c : Cluster) → Contains (rest ++ option_to_list last) c → IsFitted (64 * w) limits c) → IsStore (64 * w) t → IsInOrder w (shelf_of limits b t)
   unfolding is_made
-  order_made order store =
-      order_shifted w staged outs (made ++ option_to_list number) olds (rest ++ option_to_list last) gone (shelf_of a s) (shelf_of b t) order shift
-      is_made.rebuilds store
+  order_made order fitted store =
+      order_shifted w staged outs (made ++ option_to_list number) olds (rest ++ option_to_list last) gone (shelf_of limits a s) (shelf_of limits b t) order shift
+      is_made.rebuilds fitted store

@@ -9,7 +9,8 @@ use Rattle.lists.specs.Distinct.{AreDistinct}
 use Rattle.lists.proofs.Distinct.{distinct_apart}
 use Rattle.lists.proofs.Entries.{Contains-head}
 use Rattle.graphs.specs.declared.names.Level.TheVariants.{Main, Top}
-use Rattle.cluster.specs.Clusters.{Cluster, AreApart, IsCluster}
+use Rattle.cluster.specs.Clusters.{Cluster, AreApart}
+use Rattle.record.specs.Records.{IsRecord}
 use Rattle.name_book.specs.Books.{IsNamed}
 use Rattle.name_book.specs.Calls.{GathersMain, Touches}
 use Rattle.name_book.proofs.Named.{named-same}
@@ -129,11 +130,11 @@ module _ (w : ℕ) (outs made : List ℕ) (number : Option ℕ) (rest : List Clu
   last_in c is_c =
       subst (λ o. Contains (rest ++ option_to_list o) c) (sym is_c) (Contains-append_right rest (c ∷ []) c (Contains-head c []))
 
-  whole_last : (c : Cluster) → last ≡ Some c → IsCluster (64 * w) c
+  whole_last : (c : Cluster) → last ≡ Some c → IsRecord (64 * w) c
   whole_last c is_c = is.rebuilds.top.covers.whole c (last_in c is_c)
 
   once : (c : Cluster) → last ≡ Some c → Contains (drop kept c.names) (slice_index c.names 0) → ⊥
-  once c is_c = let low = kept_low c is_c in head_once c.names kept (whole_last c is_c).once low.0 low.1
+  once c is_c = let low = kept_low c is_c in head_once c.names kept (whole_last c is_c).connected.once low.0 low.1
 
   -- ---- the rings
 

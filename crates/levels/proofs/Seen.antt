@@ -1,5 +1,5 @@
 -- What is seen of each level.
-use Rattle.std.proofs.Common.{◌≡◌, ℕ, Bool, true, false, cond, List, Option, Some, None, IsSome, inl, inr, refl, sym, ap, ◌∙◌, true≢false}
+use Rattle.std.proofs.Common.{◌≡◌, ℕ, Bool, true, false, cond, List, Option, Some, None, IsSome, inl, inr, ◌⊎◌, refl, sym, ap, ◌∙◌, true≢false}
 use Rattle.std.specs.Prelude.{option_map, slice_index}
 use Rattle.std.proofs.lemmas.Bool.{cases_eq}
 use Rattle.std.proofs.lemmas.Option.{none-some, same_Some}
@@ -27,6 +27,20 @@ seen_is_stored level clusters number c is = from (finmap.get clusters number) is
     from : (o : Option Stored) → seen_in level o ≡ Some c → option_map (λ (s : Stored). s.cluster) o ≡ Some c
     from None e = absurd (none-some c e)
     from (Some s) e = from_tag (is_in level s.tag) s e
+
+-- and what is stored is seen in main or in the top level
+pub stored_is_seen : (clusters : Numbered) (number : ℕ) (c : Cluster) → stored_at clusters number ≡ Some c
+    → (seen_at Main clusters number ≡ Some c) ⊎ (seen_at Top clusters number ≡ Some c)
+stored_is_seen clusters number c is = from (finmap.get clusters number) is
+  where
+    by_tag : (tag : Tag) (d : Cluster) → Some d ≡ Some c → (cond (is_in Main tag) (Some d) None ≡ Some c) ⊎ (cond (is_in Top tag) (Some d) None ≡ Some c)
+    by_tag Both d e = inl e
+    by_tag MainOnly d e = inl e
+    by_tag TopOnly d e = inr e
+
+    from : (o : Option Stored) → option_map (λ (s : Stored). s.cluster) o ≡ Some c → (seen_in Main o ≡ Some c) ⊎ (seen_in Top o ≡ Some c)
+    from None e = absurd (none-some c e)
+    from (Some s) e = by_tag s.tag s.cluster e
 
 -- what is stored where all stand in both levels is seen in each
 pub both_seen : (level : Level) (clusters : Numbered) → AllHave Both clusters → (number : ℕ) → seen_at level clusters number ≡ stored_at clusters number
