@@ -67,7 +67,7 @@ there_top w issued shelf order p q there =
 
 -- ---- names of two clusters
 
-module _ (w : ℕ) (shelf : Shelf) (p q first second : ℕ) (link : IsLink w shelf p q (Between first second)) where
+module _ (w : ℕ) (shelf : Shelf) (p q first second : ℕ) (link : IsLink shelf p q (Between first second)) where
   between_apart : finmap.get (numbers_at Top shelf) p ≢ finmap.get (numbers_at Top shelf) q
   between_apart same = elim link.0 [
     | inl is ↦ link.1 (same_Some first second (sym is.0 ∙ same ∙ is.1))

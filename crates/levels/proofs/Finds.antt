@@ -1,5 +1,5 @@
 -- What the levels of a shelf say of names.
-use Rattle.std.proofs.Common.{◌≡◌, ℕ, ◌*◌, Option, Some, None, is_some, IfSome, sym, ap, ◌∙◌, subst, Contains}
+use Rattle.std.proofs.Common.{◌≡◌, ℕ, ◌*◌, Option, Some, None, is_some, IfSome, sym, ap, ap₂, ◌∙◌, subst, subst₂, Contains}
 use Rattle.std.specs.Prelude.{option_map}
 use Rattle.std.specs.FinMap as finmap
 use Rattle.graphs.specs.Closures.{Closure, is_member}
@@ -10,7 +10,9 @@ use Rattle.record.specs.Records.{IsRecord}
 use Rattle.cluster_store.specs.Laws.{Stands, IsLevel}
 use Rattle.cluster_store.specs.Stores.{IsStore}
 use Rattle.cluster_store.proofs.Unions.{levels_are_picked}
-use Rattle.levels.specs.Levels.{OneLevel, Levels, HasPick, HavePicks, level_at}
+use Rattle.graph_model.specs.declared.names.Limits.{Limits}
+use Rattle.levels.specs.Levels.{OneLevel, Levels, IsWithin, level_at}
+use Rattle.levels.specs.Oversize.{IsOversized}
 use Rattle.levels.specs.Shelves.{Shelf, IsInOrder, levels_of, numbers_at, one_of, seen_at, view_of}
 use Rattle.levels.specs.Views.{Numbers, IsIndexed, IsClusterOf, graph_of}
 use Rattle.levels.proofs.Found.{cluster_of}
@@ -67,3 +69,13 @@ module _ (w issued : ℕ) (shelf : Shelf) (now : Levels) (order : IsInOrder w sh
 
   pub whole_at : (level : Level) (number : ℕ) (c : Cluster) → seen_at level shelf.store.clusters number ≡ Some c → IsRecord (64 * w) c
   whole_at level number c is = (indexed_at w shelf order level).whole number c is
+
+  -- the limits are the shelf's, and so it is with what is over them
+  pub limits_is : now.limits ≡ shelf.limits
+  limits_is = sym (ap (λ (l : Levels). l.limits) view)
+
+  pub over_is : (level : Level) → IsOversized now.limits (level_at now level).graph ≡ IsOversized shelf.limits (graph_of (view_of level shelf))
+  over_is level = ap₂ IsOversized limits_is (graph_is level)
+
+  pub within_at : (level : Level) → IsWithin now level → IsOversized shelf.limits (graph_of (view_of level shelf)) → ⊥
+  within_at level = subst₂ (λ (l : Limits) (g : Closure). IsOversized l g → ⊥) limits_is (graph_is level)

@@ -85,16 +85,19 @@ module _ (w : ℕ) (shelf : Shelf) (order : IsInOrder w shelf) (rings : Ringed) 
     λ h. (h.0, above_from (64 * w) (view_of Main shelf) (indexed_at w shelf order Main) number h.0 id c at (inr here) h.1, h.2),
   )
 
-  pub above_live : (a : ℕ) → is_ancestor c.graph a id ≡ true → is_member (graph_of (view_of Main shelf)) a ≡ true
-  above_live a up = in_live (64 * w) (view_of Main shelf) (indexed_at w shelf order Main) number a c at
-      (names_of_above (64 * w) (view_of Main shelf) (indexed_at w shelf order Main) number a id c at up).0
-
   -- alone in its cluster it has no other
   pub lone_lacks_none : length c.names ≡ 1 → IsMarked rings id → LacksTouched (graph_of (view_of Main shelf)) rings id → ⊥
   lone_lacks_none one marked h =
       let up = above_from (64 * w) (view_of Main shelf) (indexed_at w shelf order Main) number h.0 id c at (inr here) h.1 in
       let above = (names_of_above (64 * w) (view_of Main shelf) (indexed_at w shelf order Main) number h.0 id c at up).0 in
       h.2 (subst (IsMarked rings) (one_name c.names id h.0 one here above) marked)
+
+pub same_lacks : (rings : Ringed) (id : ℕ) (a b : Shelf) → a ≡ b
+    → LacksTouched (graph_of (view_of Main a)) rings id ↔ LacksTouched (graph_of (view_of Main b)) rings id
+same_lacks rings id a b same = (
+  subst (λ (s : Shelf). LacksTouched (graph_of (view_of Main s)) rings id) same,
+  subst (λ (s : Shelf). LacksTouched (graph_of (view_of Main s)) rings id) (sym same),
+)
 
 -- ---- the names that are touched meanwhile
 

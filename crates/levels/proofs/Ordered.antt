@@ -1,4 +1,4 @@
--- A cluster with its order has a part.
+-- What suits some limits.
 use Rattle.std.proofs.Common.{◌≡◌, ◌≢◌, ℕ, ◌*◌, ◌≤◌, cond, List, [], Contains, Option, Some, None, arith, subst}
 use Rattle.std.specs.Prelude.{option_map}
 use Rattle.std.specs.FinMap as finmap
@@ -16,14 +16,6 @@ use Rattle.record.specs.Records.{IsFitted, IsRecord}
 use Rattle.cluster.proofs.Placed.{in_a_part, in_order}
 use Rattle.cluster_store.specs.Stores.{Stored}
 use Rattle.levels.specs.Shelves.{Shelf, IsInOrder, seen_in, stored_at}
-
--- a cluster has a part
-pub has_part : (most : ℕ) (c : Cluster) → IsCluster most c → c.parts ≢ []
-has_part most c is none =
-    let some = is.some in
-    let name = Contains-get_or c.names 0 0 (omega (arith, some)) in
-    let part = in_a_part c.parts _ (in_order most c is _ name) in
-    none_in_empty part.0 (subst (λ (ps : List Part). Contains ps part.0) none part.1)
 
 -- one that suits some limits is a record
 pub fitted_record : (most : ℕ) (limits : Limits) (c : Cluster) → IsFitted most limits c → IsRecord most c

@@ -24,7 +24,7 @@ use Rattle.cluster_store.specs.Unordered.{LacksOrder}
 use Rattle.cluster_store.proofs.Unions.{keyed, levels_are_picked}
 use Rattle.levels.specs.Levels.{HasPick, HavePicks, MayHavePick}
 use Rattle.levels.specs.Oversize.{AreOfOneComponent, IsOversized}
-use Rattle.levels.specs.Shelves.{Shelf, IsInOrder, levels_of, one_of, seen_at, seen_in, view_of}
+use Rattle.levels.specs.Shelves.{Shelf, IsInOrder, levels_of, numbers_at, one_of, seen_at, seen_in, stored_at, view_of}
 use Rattle.levels.specs.Views.{IsIndexed, Numbers, graph_of}
 use Rattle.levels.proofs.Finds.{indexed_at, is_level, seen}
 use Rattle.levels.proofs.Fitting.{over_or_within}
@@ -153,16 +153,28 @@ module _ (w : ℕ) (level : Level) (shelf : Shelf) (order : IsInOrder w shelf) w
 
   pub picked : (IsOversized shelf.limits known → ⊥) → HasPick (one_of level shelf)
   picked in_limits =
-      let some : (n : ℕ) (c : Cluster) → seen_at level shelf.store.clusters n ≡ Some c → c.parts ≢ [] = λ n c at none. in_limits (lacks_is_over (n, c, at, none)) in
+      let some : (n : ℕ) (c : Cluster) → seen_at level shelf.store.clusters n ≡ Some c → c.parts ≢ [] =
+      λ n c at none. in_limits (lacks_is_over (n, c, at, none)) in
       let both = levels_are_picked (64 * w) shelf.store level known order.store.ordered
       (λ n c is. let at = seen (64 * w) level shelf indexed order.store n c is in (indexed.whole n c at).ordered (some n c at))
       (is_level (64 * w) level shelf indexed order.store) in
       record { picked = both.0; uncut = both.1 }
 
+  -- and each of its clusters has its order
+  module _ (in_limits : IsOversized shelf.limits known → ⊥) where
+    pub some_parts : (n : ℕ) (c : Cluster) → seen_at level shelf.store.clusters n ≡ Some c → c.parts ≢ []
+    some_parts n c at none = in_limits (lacks_is_over (n, c, at, none))
+
+    pub ordered_there : (id n : ℕ) → finmap.get (numbers_at level shelf) id ≡ Some n
+        → (c : Cluster) × (stored_at shelf.store.clusters n ≡ Some c) × (c.parts ≢ [])
+    ordered_there id n is =
+        let at = indexed.stands id n is in
+        (at.cluster, seen_is_stored level shelf.store.clusters n at.cluster at.there, some_parts n at.cluster at.there)
+
   pub may_be_picked : MayHavePick shelf.limits (one_of level shelf)
   may_be_picked = elim (lacks_or_not level shelf.store.clusters) [
-    | inl lacks ↦ inl (lacks_is_over lacks)
-    | inr none ↦ let in_limits = λ over. none (over_lacks over) in inr (in_limits, picked in_limits)
+    | inl some ↦ inl (lacks_is_over some)
+    | inr none ↦ let in_limits : IsOversized shelf.limits known → ⊥ = λ over. none (over_lacks over) in inr (in_limits, picked in_limits)
   ]
 
 pub have_picks : (w : ℕ) (shelf : Shelf) (order : IsInOrder w shelf) (issued : ℕ) → HavePicks (levels_of shelf issued)

@@ -28,6 +28,19 @@ seen_is_stored level clusters number c is = from (finmap.get clusters number) is
     from None e = absurd (none-some c e)
     from (Some s) e = from_tag (is_in level s.tag) s e
 
+-- what is stored under a number, with its tag
+pub slot_of : (clusters : Numbered) (number : ℕ) (c : Cluster) → stored_at clusters number ≡ Some c
+    → (s : Stored) × (finmap.get clusters number ≡ Some s) × (s.cluster ≡ c)
+slot_of clusters number c is = from (finmap.get clusters number) refl is
+  where
+    from : (o : Option Stored) → finmap.get clusters number ≡ o → option_map (λ (s : Stored). s.cluster) o ≡ Some c
+        → (s : Stored) × (finmap.get clusters number ≡ Some s) × (s.cluster ≡ c)
+    from None there e = absurd (none-some c e)
+    from (Some s) there e = (s, there, same_Some s.cluster c e)
+
+pub stored_of : (clusters : Numbered) (number : ℕ) (s : Stored) → finmap.get clusters number ≡ Some s → stored_at clusters number ≡ Some s.cluster
+stored_of clusters number s is = ap (option_map (λ (x : Stored). x.cluster)) is
+
 -- and what is stored is seen in main or in the top level
 pub stored_is_seen : (clusters : Numbered) (number : ℕ) (c : Cluster) → stored_at clusters number ≡ Some c
     → (seen_at Main clusters number ≡ Some c) ⊎ (seen_at Top clusters number ≡ Some c)

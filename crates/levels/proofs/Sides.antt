@@ -92,7 +92,7 @@ module _ (w : ℕ) (shelf : Shelf) (order : IsInOrder w shelf) (p q : ℕ) where
         one_at = one_at;
         other_at = other_at;
         across = inl (between.first.here, between.second.here);
-        few = both_few w shelf order above below a b one_at other_at between.apart few;
+        few = both_few w shelf order few above below a b one_at other_at between.apart;
         alone = between.apart;
         count = λ ids lists. both_count graph p q a b ids between lists;
         size = λ ids lists. both_size graph p q a b ids between lists;

@@ -401,9 +401,10 @@ impl<const W: usize> Levels<W> {
         self.shelves.least()
     }
 
-    /// The fees and sizes of the parts of a level in its order, in satoshis and virtual bytes. Takes no memory, and looks at no
-    /// cluster.
+    /// The fees and sizes of the parts of a level in its order, in satoshis and virtual bytes. The level isn't over the limits. Takes
+    /// no memory, and looks at no cluster.
     pub fn rates(&self, level: Level) -> RateWalk<'_>
+        requires { IsWithin self.now level }
         ensures rates { result ≡ sums_of (level_at self.now level).parts }
         ensures yields { YieldsParts ⟦<RateWalk<'static> as Iterator>⟧.next_gives result (sums_of (level_at self.now level).parts) }
         ensures names { (id : ℕ) → is_member (level_at self.now level).graph id ≡ true

@@ -10,7 +10,9 @@ use Rattle.levels.specs.Levels.{ChangesTop, HavePicks, level_at}
 use Rattle.levels.specs.Moves.{Connects}
 use Rattle.levels.specs.Shelves.{Shelf, levels_of}
 use Rattle.levels.proofs.Connecting.{RowIs, connected_top, every_error, kept_on, row_refused, stays_on}
-use Rattle.levels.proofs.Finds.{graph_is, have_picks}
+use Rattle.levels.proofs.Finds.{graph_is, limits_is}
+use Rattle.levels.proofs.Keeping.{few_kept}
+use Rattle.levels.proofs.Oversizing.{have_picks}
 use Rattle.levels.proofs.Turned.{stays_from, turns_from}
 use Rattle.levels.proofs.Rooms.{work_fits}
 use Rattle.levels.proofs.Unmoved.{same_all_stay}
