@@ -105,6 +105,15 @@ pub stays_on : {T E : Type 0} (result : Result T E) (w issued : ℕ) (old new : 
 stays_on (Ok x) w issued old new before after parent child connects Same err = connected_stays w issued old new before after parent child connects
 stays_on (Err e) w issued old new before after parent child connects Same err = same_shelf_stays w old new before after issued issued err.0
 
+-- the same of shelves that are as they were
+pub connects_from : {T E : Type 0} (result : Result T E) (w parent child : ℕ) (mid old new : Shelf) → mid ≡ old
+    → OnOk result (Connects w parent child mid new) → OnOk result (Connects w parent child old new)
+connects_from result w parent child mid old new same = subst (λ (s : Shelf). OnOk result (Connects w parent child s new)) same
+
+pub fails_from : {T E : Type 0} (result : Result T E) (mid old new : Shelf) (Same : Type 0) → mid ≡ old
+    → OnErr result ((new ≡ mid) × Same) → OnErr result ((new ≡ old) × Same)
+fails_from result mid old new Same same = subst (λ (s : Shelf). OnErr result ((new ≡ s) × Same)) same
+
 -- ---- what is kept
 
 either_count : (mains tops : ℕ) (staged : Bool) → (staged ≡ false → mains ≡ tops) → mains ≡ cond staged mains tops

@@ -102,6 +102,23 @@ levels_none limits shelf empty =
       issued = 0;
     })
 
+-- other limits
+pub kept_limited : (w mains tops issued : ℕ) (limits : Limits) (old new : Shelf) (rings : Ringed) → new ≡ record old { limits = limits } → IsInOrder w new
+    → IsKept w old rings mains tops issued → IsKept w new rings mains tops issued
+kept_limited w mains tops issued limits old new rings is order kept = record {
+  order = order;
+  right = subst (λ (s : Shelf). SuitsShelf rings s) (sym is) kept.right;
+  mains = subst (λ (s : Shelf). mains ≡ finmap.len s.main) (sym is) kept.mains;
+  tops = subst (λ (s : Shelf). tops ≡ finmap.len (numbers_at Top s)) (sym is) kept.tops;
+  issued = kept.issued;
+  few = kept.few;
+}
+
+pub levels_limited : (limits : Limits) (old new : Shelf) (issued : ℕ) (now : Levels) → levels_of old issued ≡ now → new ≡ record old { limits = limits }
+    → levels_of new issued ≡ record now { limits = limits }
+levels_limited limits old new issued now view is =
+    ap (λ (s : Shelf). levels_of s issued) is ∙ ap (λ (l : Levels). record l { limits = limits }) view
+
 -- there is a staging of the shelf where the levels have one
 pub shelf_staged : (shelf : Shelf) (issued : ℕ) (now : Levels) → levels_of shelf issued ≡ now → is_some shelf.staging ≡ is_some now.staging
 shelf_staged shelf issued now view = from shelf.staging ∙ ap (λ (l : Levels). is_some l.staging) view

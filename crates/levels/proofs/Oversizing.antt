@@ -1,10 +1,10 @@
 -- A level is over the limits exactly where a cluster without an order stands in it, and else its parts are a pick.
-use Rattle.std.proofs.Common.{◌≡◌, ◌≢◌, ◌↔◌, ℕ, suc, zero, ◌*◌, ◌<◌, ◌≤◌, Bool, true, false, ◌&&◌, cond, List, [], ◌∷◌, length, Contains, Option, Some, None, IfSome, inl, inr, ◌⊎◌, refl, sym, ap, ◌∙◌, subst, arith, true≢false}
+use Rattle.std.proofs.Common.{◌≡◌, ◌≢◌, ◌↔◌, ℕ, suc, zero, ◌*◌, ◌<◌, ◌≤◌, Bool, true, false, ◌&&◌, cond, List, [], ◌∷◌, length, Contains, get_or, Option, Some, None, IfSome, inl, inr, ◌⊎◌, refl, sym, ap, ◌∙◌, subst, arith, true≢false}
 use Rattle.std.specs.Prelude.{option_map, sum_by}
 use Rattle.std.specs.List.{list_any}
 use Rattle.std.proofs.lemmas.Bool.{and_from, and_parts}
 use Rattle.std.proofs.lemmas.List.Folds.{Any-from_list_any, list_any_at}
-use Rattle.std.proofs.lemmas.Option.{none-some}
+use Rattle.std.proofs.lemmas.List.Elements.{Contains-get_or}
 use Rattle.std.specs.FinMap as finmap
 use Rattle.arithmetic.proofs.Sums.{sum_by_along}
 use Rattle.fee_rate.specs.declared.rates.FeeRate.{FeeRate}
@@ -22,15 +22,16 @@ use Rattle.record.proofs.Ordered.{has_parts}
 use Rattle.cluster_store.specs.Stores.{Numbered, Stored}
 use Rattle.cluster_store.specs.Unordered.{LacksOrder}
 use Rattle.cluster_store.proofs.Unions.{keyed, levels_are_picked}
-use Rattle.levels.specs.Levels.{HasPick, HavePicks, MayHavePick}
+use Rattle.levels.specs.Levels.{HasPick, HavePicks, Levels, MayHavePick}
 use Rattle.levels.specs.Oversize.{AreOfOneComponent, IsOversized}
 use Rattle.levels.specs.Shelves.{Shelf, IsInOrder, levels_of, numbers_at, one_of, seen_at, seen_in, stored_at, view_of}
 use Rattle.levels.specs.Views.{IsIndexed, Numbers, graph_of}
-use Rattle.levels.proofs.Finds.{indexed_at, is_level, seen}
+use Rattle.levels.proofs.Finds.{graph_is, indexed_at, is_level, seen}
 use Rattle.levels.proofs.Fitting.{over_or_within}
 use Rattle.levels.proofs.Found.{cluster_of}
 use Rattle.levels.proofs.Graphs.{in_live, live_in, rate_in_cluster}
-use Rattle.levels.proofs.Seen.{seen_is_stored}
+use Rattle.levels.proofs.Keeping.{shelf_alone}
+use Rattle.levels.proofs.Seen.{both_seen, seen_is_stored}
 use Rattle.levels.proofs.Shelved.{seen_of}
 
 -- ---- whether a cluster without an order stands in a level
@@ -183,3 +184,20 @@ have_picks w shelf order issued = (may_be_picked w Main shelf order, from shelf.
     from : (o : Option Numbers) → IfSome (option_map (λ _. one_of Top shelf) o) (MayHavePick shelf.limits)
     from None = tt
     from (Some m) = may_be_picked w Top shelf order
+
+-- ---- levels without a name have no cluster
+
+pub none_stored : (w issued : ℕ) (shelf : Shelf) (now : Levels) (order : IsInOrder w shelf) (view : levels_of shelf issued ≡ now) → now.staging ≡ None
+    → ((id : ℕ) → is_member now.main.graph id ≡ false) → (number : ℕ) → stored_at shelf.store.clusters number ≡ None
+none_stored w issued shelf now order view alone none number = by (stored_at shelf.store.clusters number) refl
+  where
+    by : (o : Option Cluster) → stored_at shelf.store.clusters number ≡ o → o ≡ None
+    by None is = refl
+    by (Some c) is =
+        let all = order.both (shelf_alone shelf issued now view alone) in
+        let seen = both_seen Main shelf.store.clusters all number ∙ is in
+        let whole = (order.main.whole number c seen).connected in
+        let some = whole.some in
+        let id = get_or c.names 0 0 in
+        let live = in_live (64 * w) (view_of Main shelf) order.main number id c seen (Contains-get_or c.names 0 0 (omega (arith, some))) in
+        absurd (true≢false (sym live ∙ ap (λ (g : Closure). is_member g id) (sym (graph_is w issued shelf now order view Main)) ∙ none id))
