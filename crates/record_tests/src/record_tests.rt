@@ -19,6 +19,7 @@ const LIMITS: Limits = Limits {
     count: 2,
     size: 1_000,
     total: 10,
+    defer: false,
 };
 
 // Whether a name is in a list.

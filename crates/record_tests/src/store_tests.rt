@@ -22,6 +22,7 @@ const ONE_NAME: Limits = Limits {
     count: 1,
     size: 1_000,
     total: 10,
+    defer: false,
 };
 
 // ---- records, all made before the store is
