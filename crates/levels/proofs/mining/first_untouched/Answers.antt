@@ -1,5 +1,5 @@
 -- One name more has touched ancestors alone, or hasn't.
-use Rattle.std.proofs.Common.{◌≡◌, ◌≤◌, ℕ, true, length, Contains, sym, subst, ◌∙◌, true≢false, arith}
+use Rattle.std.proofs.Common.{rules, ◌≡◌, ◌≤◌, ℕ, true, length, Contains, sym, subst, ◌∙◌, true≢false, arith}
 use Rattle.std.specs.Prelude.{slice_index}
 use Rattle.graphs.specs.declared.names.Level.TheVariants.{Main}
 use Rattle.graphs.specs.Closures.{is_member}

@@ -10,9 +10,10 @@ use Rattle.levels.proofs.Summing.{rated}
 use Rattle.graphs.specs.declared.names.Level.{Level}
 use Rattle.graphs.specs.declared.names.Level.TheVariants.{Main, Top}
 use Rattle.levels.specs.Orders.{ComparesParts}
+use Rattle.levels.proofs.levels.Levels.compare.Given as given
 use Rattle.levels.proofs.levels.Levels.compare.Goals as goal
 
-both_within : (g : given.Over) (c : goal.At-compare g) (level : Level) → IsOversized c.self.inside.shelves.limits (one_of level c.self.inside.shelves).graph → ⊥
+both_within : (g : given.Over) (c : goal.Start g) (level : Level) → IsOversized c.self.inside.shelves.limits (one_of level c.self.inside.shelves).graph → ⊥
 both_within g c Main = within_at g.row.W c.self.inside.issued c.self.inside.shelves c.args.self.now c.self.invariant.order c.self.view_is Main c.requires.within.0
 both_within g c Top = within_at g.row.W c.self.inside.issued c.self.inside.shelves c.args.self.now c.self.invariant.order c.self.view_is Top c.requires.within.1
 

@@ -1,4 +1,4 @@
-use Rattle.std.proofs.Common.{◌≡◌, ◌≤◌, ◌+◌, ◌*◌, ℕ, List, ap, Contains, subst, subst₂, ◌∙◌, sym, arith}
+use Rattle.std.proofs.Common.{◌≡◌, ◌≤◌, ◌+◌, ◌*◌, ℕ, List, ap, All, Contains, subst, subst₂, ◌∙◌, sym, arith}
 use Rattle.std.proofs.lemmas.Result.{on_ok_weaker}
 use Rattle.std.proofs.lemmas.Option.{same_Some}
 use Rattle.cluster.specs.Changes.{AreComponents, IsSplit}
