@@ -79,3 +79,7 @@ module _ (w issued : ℕ) (shelf : Shelf) (now : Levels) (order : IsInOrder w sh
 
   pub within_at : (level : Level) → IsWithin now level → IsOversized shelf.limits (graph_of (view_of level shelf)) → ⊥
   within_at level = subst₂ (λ (l : Limits) (g : Closure). IsOversized l g → ⊥) limits_is (graph_is level)
+
+  pub both_at : IsWithin now Main × IsWithin now Top → (level : Level) → IsOversized shelf.limits (graph_of (view_of level shelf)) → ⊥
+  both_at within Main = within_at Main within.0
+  both_at within Top = within_at Top within.1

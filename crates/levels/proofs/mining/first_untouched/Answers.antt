@@ -34,11 +34,15 @@ returns-then-lacks_touched-clause-first g c =
     first_here (LacksTouched (graph_of (view_of Main c.args.shelves.now)) c.args.rings.now) c.args.ids.now c.loop-id.id-index
     c.loop-id.invariant.none c.loop-id-test.true (same.0 (c.lacks_touched.ensures.lacks.0 c.if-lacks_touched.true))
 
-pub loop-id-preserved-none : goal.loop-id-preserved-none
-loop-id-preserved-none g c =
+pub loop-id-preserved : goal.loop-id-preserved
+loop-id-preserved g c =
     let same = same_lacks c.args.rings.now (slice_index c.args.ids.now c.loop-id.id-index) c.loop-id.shelves c.args.shelves.now c.loop-id.invariant.same in
-    none_here (LacksTouched (graph_of (view_of Main c.args.shelves.now)) c.args.rings.now) c.args.ids.now c.loop-id.id-index
-    c.loop-id.invariant.none c.loop-id-test.true (λ lacks. true≢false (sym (c.lacks_touched.ensures.lacks.1 (same.1 lacks)) ∙ c.if-lacks_touched.false))
+    record {
+      none =
+        none_here (LacksTouched (graph_of (view_of Main c.args.shelves.now)) c.args.rings.now) c.args.ids.now c.loop-id.id-index
+        c.loop-id.invariant.none c.loop-id-test.true (λ lacks. true≢false (sym (c.lacks_touched.ensures.lacks.1 (same.1 lacks)) ∙ c.if-lacks_touched.false));
+      same = c.lacks_touched.ensures.same ∙ c.loop-id.invariant.same;
+    }
 
 pub returns-clause-first : goal.returns-clause-first
 returns-clause-first g c =

@@ -2,7 +2,7 @@ use Rattle.std.proofs.Common.{rules, ◌≡◌, ℕ, true, sym, subst, subst₂}
 use Rattle.fee_rate.specs.Limits.{IsRate}
 use Rattle.graphs.specs.Closures.{is_member, rate_of}
 use Rattle.levels.specs.Levels.{OneLevel}
-use Rattle.levels.proofs.Finds.{level_is, within_at}
+use Rattle.levels.proofs.Finds.{both_at, level_is}
 use Rattle.levels.specs.Oversize.{IsOversized}
 use Rattle.levels.specs.Shelves.{one_of}
 use Rattle.levels.proofs.Keeping.{few_kept}
@@ -10,12 +10,7 @@ use Rattle.levels.proofs.Summing.{rated}
 use Rattle.graphs.specs.declared.names.Level.{Level}
 use Rattle.graphs.specs.declared.names.Level.TheVariants.{Main, Top}
 use Rattle.levels.specs.Orders.{ComparesParts}
-use Rattle.levels.proofs.levels.Levels.compare.Given as given
 use Rattle.levels.proofs.levels.Levels.compare.Goals as goal
-
-both_within : (g : given.Over) (c : goal.Start g) (level : Level) → IsOversized c.self.inside.shelves.limits (one_of level c.self.inside.shelves).graph → ⊥
-both_within g c Main = within_at g.row.W c.self.inside.issued c.self.inside.shelves c.args.self.now c.self.invariant.order c.self.view_is Main c.requires.within.0
-both_within g c Top = within_at g.row.W c.self.inside.issued c.self.inside.shelves c.args.self.now c.self.invariant.order c.self.view_is Top c.requires.within.1
 
 pub compare-requires : goal.compare-requires
 compare-requires g c = (
@@ -23,8 +18,8 @@ compare-requires g c = (
   (
     c.self.invariant.order,
     (
-      both_within g c,
-    few_kept g.row.W c.self.inside.mains c.self.inside.tops c.self.inside.issued c.self.inside.shelves c.self.inside.rings c.self.invariant,
+      both_at g.row.W c.self.inside.issued c.self.inside.shelves c.args.self.now c.self.invariant.order c.self.view_is c.requires.within,
+      few_kept g.row.W c.self.inside.mains c.self.inside.tops c.self.inside.issued c.self.inside.shelves c.self.inside.rings c.self.invariant,
     ),
   ),
 )

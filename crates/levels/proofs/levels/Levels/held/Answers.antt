@@ -21,4 +21,4 @@ pub returns-clause-narrow : goal.returns-clause-narrow
 returns-clause-narrow g c = c.self.invariant.order.narrow
 
 pub held-requires : goal.held-requires
-held-requires g c = (search rules, (c.self.invariant.order, within_at g.row.W c.self.inside.issued c.self.inside.shelves c.args.self.now c.self.invariant.order c.self.view_is c.args.level c.requires))
+held-requires g c = (search rules, (search rules, (c.self.invariant.order, within_at g.row.W c.self.inside.issued c.self.inside.shelves c.args.self.now c.self.invariant.order c.self.view_is c.args.level c.requires)))
