@@ -5,7 +5,6 @@ use Rattle.std.proofs.lemmas.Option.{same_Some}
 use Rattle.lists.proofs.Entries.{Contains-head, Contains-map}
 use Rattle.fee_rate.specs.declared.rates.FeeRate.{FeeRate}
 use Rattle.graphs.specs.declared.names.Level.{Level}
-use Rattle.graphs.specs.Certificates.{Part}
 use Rattle.graphs.specs.Closures.{Closure, is_member, rate_of}
 use Rattle.cluster.specs.Clusters.{Cluster}
 use Rattle.cluster_store.specs.Stores.{Shown, IsLeast, shown_in}

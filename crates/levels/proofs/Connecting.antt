@@ -1,5 +1,5 @@
 -- A name of the top level became a parent of another: what the levels see of it, and what is kept of them.
-use Rattle.std.proofs.Common.{IfErr, ◌≡◌, ◌≢◌, ◌≤◌, ℕ, ◌*◌, ◌&&◌, ◌||◌, Bool, true, false, cond, Option, Some, None, is_some, inl, inr, refl, sym, ap, arith, ◌∙◌, subst, subst₂, ◌⊎◌, Result, Ok, Err, OnOk, OnErr, MatchResult}
+use Rattle.std.proofs.Common.{IfErr, ◌≡◌, ◌≢◌, ℕ, ◌*◌, ◌&&◌, ◌||◌, Bool, true, false, cond, Option, Some, None, is_some, inl, inr, refl, sym, ap, arith, ◌∙◌, subst, subst₂, ◌⊎◌, Result, Ok, Err, OnOk, OnErr, MatchResult}
 use Rattle.std.specs.Result.{IsErrAnd}
 use Rattle.std.proofs.lemmas.Bool.{or_cases, or_left, and_parts}
 use Rattle.std.specs.FinMap as finmap

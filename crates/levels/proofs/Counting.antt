@@ -1,5 +1,5 @@
 -- The steps of a new fee, by the numbers that the levels have for the name.
-use Rattle.std.proofs.Common.{◌≡◌, ℕ, ◌*◌, ◌+◌, ◌≤◌, List, length, Option, Some, None, is_some, inl, inr, ◌⊎◌, refl, sym, ap, ◌∙◌, subst, subst₂, arith}
+use Rattle.std.proofs.Common.{◌≡◌, ℕ, ◌*◌, ◌+◌, ◌≤◌, List, Option, Some, None, is_some, refl, sym, ap, ◌∙◌, subst, subst₂, arith}
 use Rattle.std.specs.Prelude.{MatchOption}
 use Rattle.std.proofs.lemmas.Option.{same_Some}
 use Rattle.std.specs.FinMap as finmap
@@ -12,7 +12,7 @@ use Rattle.cluster.specs.Steps.{GrowsWithin}
 use Rattle.record.specs.Steps.{most_steps_again, most_steps_fit}
 use Rattle.levels.specs.Levels.{steps_where}
 use Rattle.levels.specs.Moves.{AreNumbersOf, GrowsForBoth}
-use Rattle.levels.specs.Shelves.{Shelf, IsInOrder, numbers_at, seen_at, stored_at, view_of}
+use Rattle.levels.specs.Shelves.{Shelf, IsInOrder, numbers_at, stored_at, view_of}
 use Rattle.levels.specs.Views.{graph_of}
 use Rattle.levels.proofs.Finds.{indexed_at}
 use Rattle.levels.proofs.Seen.{seen_is_stored}

@@ -1,9 +1,8 @@
 -- Names leave their clusters: what is left of these may come in, and what is made of it.
-use Rattle.std.proofs.Common.{◌≡◌, ℕ, ◌*◌, ◌<◌, ◌≤◌, IsSome, true≢false, List, [], ◌∷◌, ◌++◌, length, Contains, Option, Some, None, inl, inr, refl, sym, ap, ◌∙◌, subst, subst₂, arith}
-use Rattle.std.specs.Prelude.{slice_get, slice_index, option_to_list, IfSome, sum_by}
+use Rattle.std.proofs.Common.{◌≡◌, ℕ, ◌*◌, ◌<◌, ◌≤◌, IsSome, true≢false, List, [], ◌∷◌, ◌++◌, length, Contains, Option, Some, None, inl, inr, refl, sym, ap, ◌∙◌, subst, arith}
+use Rattle.std.specs.Prelude.{slice_get, slice_index, option_to_list, IfSome}
 use Rattle.std.proofs.lemmas.List.{get_or_default}
 use Rattle.std.proofs.lemmas.List.Elements.{Contains-append_right}
-use Rattle.std.proofs.lemmas.Option.{none-some, same_Some}
 use Rattle.std.specs.FinMap as finmap
 use Rattle.lists.proofs.Told.{told_number}
 use Rattle.graphs.specs.declared.names.Level.TheVariants.{Top}
@@ -12,7 +11,7 @@ use Rattle.lists.proofs.Entries.{Contains-head}
 use Rattle.cluster.specs.Clusters.{Cluster}
 use Rattle.record.specs.Records.{IsFitted}
 use Rattle.levels.proofs.Ordered.{fitted_record}
-use Rattle.levels.specs.Changes.{AreAt, Covers, IsNamed}
+use Rattle.levels.specs.Changes.{Covers}
 use Rattle.levels.specs.Lefts.{AreLeft}
 use Rattle.levels.specs.Moves.{DropsIn, DropsTop}
 use Rattle.levels.specs.Shelves.{IsInOrder, Shelf, numbers_at, seen_at}

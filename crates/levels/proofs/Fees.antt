@@ -2,7 +2,6 @@
 use Rattle.std.proofs.Common.{◌≡◌, ◌≢◌, ℕ, ℤ, ◌*◌, List, [], ◌∷◌, map, Contains, Option, Some, None, IsSome, is_some, inl, inr, ◌⊎◌, refl, sym, ap, ◌∙◌, subst, true≢false, SFits, w64, of_z, to_z}
 use Rattle.std.specs.Prelude.{option_map, option_to_list}
 use Rattle.std.proofs.lemmas.Int.{to_z-of_z}
-use Rattle.std.proofs.lemmas.Bool.{cases_eq}
 use Rattle.std.proofs.lemmas.Option.{none-some, same_Some}
 use Rattle.std.specs.FinMap as finmap
 use Rattle.lists.specs.Distinct.{AreDistinct}
@@ -12,7 +11,7 @@ use Rattle.graphs.specs.declared.names.Level.{Level}
 use Rattle.graphs.specs.declared.names.Level.TheVariants.{Main, Top}
 use Rattle.graphs.specs.Closures.{Closure, rate_of, SetsFee}
 use Rattle.cluster.specs.Clusters.{Cluster}
-use Rattle.cluster_store.specs.Changes.{AreHeld, ExchangesEach}
+use Rattle.cluster_store.specs.Changes.{ExchangesEach}
 use Rattle.cluster_store.specs.Stores.{Exchange, Stored}
 use Rattle.levels.specs.Moves.{AreNumbersOf, ArePriced, IsPriced, SetsFeeAt, SetsFees}
 use Rattle.levels.specs.Shelves.{Shelf, IsInOrder, numbers_at, seen_at, stored_at, view_of}
@@ -24,7 +23,6 @@ use Rattle.levels.proofs.Ordered.{fitted_record}
 use Rattle.levels.proofs.Finds.{indexed_at}
 use Rattle.cluster_store.proofs.Seen.{same_seen}
 use Rattle.levels.proofs.Seen.{seen_is_stored}
-use Rattle.levels.proofs.Under.{held, is_stored}
 
 -- two numbers with the same bits are the same
 same_reading : (x y : ℤ) → SFits w64 x → SFits w64 y → of_z w64 x ≡ of_z w64 y → x ≡ y

@@ -1,6 +1,5 @@
 -- What the levels of a shelf say of names.
-use Rattle.std.proofs.Common.{◌≡◌, ℕ, ◌*◌, Option, Some, None, is_some, IfSome, sym, ap, ap₂, ◌∙◌, subst, subst₂, Contains}
-use Rattle.std.specs.Prelude.{option_map}
+use Rattle.std.proofs.Common.{◌≡◌, ℕ, ◌*◌, Some, None, is_some, sym, ap, ap₂, ◌∙◌, subst, subst₂, Contains}
 use Rattle.std.specs.FinMap as finmap
 use Rattle.graphs.specs.Closures.{Closure, is_member}
 use Rattle.graphs.specs.declared.names.Level.{Level}
@@ -9,12 +8,11 @@ use Rattle.cluster.specs.Clusters.{Cluster}
 use Rattle.record.specs.Records.{IsRecord}
 use Rattle.cluster_store.specs.Laws.{Stands, IsLevel}
 use Rattle.cluster_store.specs.Stores.{IsStore}
-use Rattle.cluster_store.proofs.Unions.{levels_are_picked}
 use Rattle.graph_model.specs.declared.names.Limits.{Limits}
 use Rattle.levels.specs.Levels.{OneLevel, Levels, IsWithin, level_at}
 use Rattle.levels.specs.Oversize.{IsOversized}
 use Rattle.levels.specs.Shelves.{Shelf, IsInOrder, levels_of, numbers_at, one_of, seen_at, view_of}
-use Rattle.levels.specs.Views.{Numbers, IsIndexed, IsClusterOf, graph_of}
+use Rattle.levels.specs.Views.{IsIndexed, IsClusterOf, graph_of}
 use Rattle.levels.proofs.Found.{cluster_of}
 use Rattle.levels.proofs.Graphs.{above_in, in_above, in_live, live_in, member-number, one_number, rate_in_cluster}
 use Rattle.levels.proofs.Shelved.{level_of_shelf, one_view, same_level, stands_seen}

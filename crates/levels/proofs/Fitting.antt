@@ -1,5 +1,5 @@
 -- The steps of the order of a cluster, by its names in the graph of a level: none where it is over the limits.
-use Rattle.std.proofs.Common.{◌≡◌, ℕ, Bool, true, false, List, [], length, cond, refl, sym, ap, ap₂, ◌∙◌, inl, inr, ◌⊎◌, true≢false}
+use Rattle.std.proofs.Common.{◌≡◌, ℕ, Bool, true, false, List, length, cond, refl, sym, ap, ap₂, ◌∙◌, inl, inr, ◌⊎◌, true≢false}
 use Rattle.graphs.specs.Certificates.{Part}
 use Rattle.graphs.specs.Closures.{Closure}
 use Rattle.graph_model.specs.declared.names.Limits.{Limits}

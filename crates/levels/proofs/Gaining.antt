@@ -1,10 +1,8 @@
 -- The rings are right again where a name came in, and where room was made.
-use Rattle.std.proofs.Common.{◌≡◌, ◌≢◌, ◌↔◌, ℕ, zero, suc, ◌*◌, ◌<◌, ◌≤◌, Bool, true, false, List, [], ◌∷◌, Option, Some, None, is_some, IsSome, Contains, inl, inr, refl, sym, ap, ◌∙◌, subst, true≢false, arith}
-use Rattle.std.specs.Prelude.{unwrap_or, MatchOption}
-use Rattle.std.proofs.lemmas.Option.{none-some}
+use Rattle.std.proofs.Common.{◌≡◌, ℕ, ◌*◌, Bool, true, false, List, [], ◌∷◌, Option, Some, None, is_some, IsSome, Contains, inl, inr, refl, sym, ◌∙◌, subst, true≢false, arith}
 use Rattle.std.specs.FinMap as finmap
 use Rattle.lists.proofs.Cases.{none_of}
-use Rattle.lists.proofs.Entries.{Contains-head, Contains-cases, none_in_empty}
+use Rattle.lists.proofs.Entries.{Contains-head, none_in_empty}
 use Rattle.fee_rate.specs.declared.rates.FeeRate.{FeeRate}
 use Rattle.graphs.specs.declared.names.Level.TheVariants.{Main, Top}
 use Rattle.cluster.specs.Clusters.{Cluster}

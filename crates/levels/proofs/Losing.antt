@@ -1,29 +1,17 @@
 -- What is left of some clusters without some names, and of one more.
-use Rattle.std.proofs.Common.{◌≡◌, ◌≢◌, ℕ, ◌+◌, ◌-◌, ◌*◌, ◌<◌, ◌≤◌, true, List, [], ◌∷◌, ◌++◌, length, get_or, map, All, Contains, Option, Some, None, inl, inr, ◌⊎◌, ◌↔◌, refl, sym, ap, ◌∙◌, subst, subst₂, arith, length-append}
-use Rattle.std.specs.Prelude.{slice_get, option_to_list}
-use Rattle.std.specs.FinMap as finmap
+use Rattle.std.proofs.Common.{◌≡◌, ℕ, ◌-◌, ◌<◌, true, List, [], ◌∷◌, ◌++◌, length, get_or, Contains, inl, inr, ◌⊎◌, ◌↔◌, refl, sym, ap, ◌∙◌, subst, subst₂, arith, length-append}
 use Rattle.std.specs.List.{AllPairs}
-use Rattle.std.specs.List.Sorted.{IsPermutation}
 use Rattle.std.proofs.lemmas.Bool.{cases_lt}
-use Rattle.std.proofs.lemmas.List.{append_assoc, get_or_append_left, get_or-append_right, get_or_default, map-append}
-use Rattle.std.proofs.lemmas.List.Elements.{All-contains, Contains-append_left, Contains-append_right, Contains-append_cases, Contains-get_or}
-use Rattle.std.proofs.lemmas.List.Sorted.{Contains-permutation, IsPermutation-append_comm, IsPermutation-append_right, IsPermutation-refl, IsPermutation-sym}
-use Rattle.std.proofs.lemmas.Option.{none-some, same_Some}
-use Rattle.lists.proofs.Distinct.{distinct_push}
-use Rattle.lists.proofs.Entries.{Contains-head, Contains-one, none_in_empty}
+use Rattle.std.proofs.lemmas.List.{get_or_append_left, get_or-append_right}
+use Rattle.std.proofs.lemmas.List.Elements.{Contains-append_left, Contains-append_right, Contains-append_cases, Contains-get_or}
+use Rattle.lists.proofs.Entries.{Contains-head, Contains-one}
 use Rattle.graphs.specs.Closures.{is_ancestor, rate_of}
-use Rattle.graphs.specs.declared.names.Level.TheVariants.{Top}
 use Rattle.cluster.specs.Changes.{IsAncestorIn, IsSplit}
-use Rattle.cluster.specs.Clusters.{Cluster, AreApart}
+use Rattle.cluster.specs.Clusters.{Cluster}
 use Rattle.record.specs.Records.{IsConnected}
-use Rattle.levels.specs.Changes.{AreAt, IsNamed}
-use Rattle.levels.specs.Lefts.{AreLeft, Takes}
+use Rattle.levels.specs.Changes.{IsNamed}
 use Rattle.levels.specs.Moves.{DropsIn}
-use Rattle.levels.specs.Shelves.{IsInOrder, Shelf, numbers_at, seen_at}
-use Rattle.levels.proofs.Ends.{got}
 use Rattle.levels.proofs.Making.{named_one, one_named}
-use Rattle.levels.proofs.Swaps.{all_pairs_permuted}
-use Rattle.levels.proofs.Under.{held}
 
 -- ---- lists
 

@@ -1,10 +1,8 @@
 -- What comes into the top level of a shelf in the place of what goes out, and what a call of the shelf makes of it.
-use Rattle.std.proofs.Common.{◌≡◌, ◌≢◌, ℕ, zero, suc, ◌*◌, Bool, List, [], ◌∷◌, ◌++◌, length, Contains, Option, Some, None, is_some, IsSome, inl, inr, ◌⊎◌, ◌↔◌, refl, sym, ap, ◌∙◌, subst, arith, length-append}
-use Rattle.std.specs.Prelude.{slice_get, slice_index, option_to_list}
+use Rattle.std.proofs.Common.{◌≡◌, ℕ, zero, suc, ◌*◌, Bool, List, [], ◌∷◌, ◌++◌, Contains, Option, Some, None, is_some, IsSome, inl, inr, sym, ap, ◌∙◌, subst, arith}
+use Rattle.std.specs.Prelude.{slice_get, slice_index}
 use Rattle.std.specs.List.{AllPairs}
-use Rattle.std.proofs.lemmas.Bool.{cases_eq}
 use Rattle.std.proofs.lemmas.Option.{none-some, same_Some}
-use Rattle.std.proofs.lemmas.List.{append-nil}
 use Rattle.std.proofs.lemmas.List.Elements.{Contains-append_left, Contains-append_right, Contains-append_cases}
 use Rattle.std.specs.FinMap as finmap
 use Rattle.lists.proofs.Entries.{Contains-head, Contains-later, Contains-cases, none_in_empty}
@@ -12,9 +10,9 @@ use Rattle.graphs.specs.declared.names.Level.TheVariants.{Top}
 use Rattle.cluster.specs.Clusters.{Cluster, AreApart}
 use Rattle.record.specs.Records.{IsRecord}
 use Rattle.levels.specs.Changes.{AreAt, Covers, IsNamed, Points}
-use Rattle.levels.specs.Shelves.{Shelf, numbers_at, seen_at, view_of}
+use Rattle.levels.specs.Shelves.{Shelf, numbers_at, seen_at}
 use Rattle.levels.specs.Tops.{Exchanged, IsMade, TopRebuilds}
-use Rattle.levels.specs.Views.{IsIndexed, Numbers}
+use Rattle.levels.specs.Views.{Numbers}
 use Rattle.cluster_store.proofs.Listed.{at_more, at_one, only_one}
 use Rattle.levels.proofs.Pointing.{one_list}
 

@@ -1,5 +1,5 @@
 -- Why names can't be mined: by the names of main, and by which of them are touched.
-use Rattle.std.proofs.Common.{◌≡◌, ◌≢◌, ◌⊎◌, ◌↔◌, ℕ, ◌+◌, ◌*◌, ◌<◌, ◌≤◌, Bool, true, false, List, ◌∷◌, length, take, get_or, slice_index_or, Contains, Option, Some, None, is_some, inl, inr, refl, sym, ap, ◌∙◌, subst, true≢false, arith}
+use Rattle.std.proofs.Common.{◌≡◌, ◌≢◌, ◌↔◌, ℕ, ◌*◌, ◌≤◌, true, false, List, ◌∷◌, length, get_or, Contains, Option, Some, None, is_some, inl, inr, refl, sym, ap, ◌∙◌, subst, arith}
 use Rattle.std.specs.Prelude.{unwrap_or}
 use Rattle.std.specs.Ordering.{nat_cmp}
 use Rattle.std.specs.FinMap as finmap
@@ -11,14 +11,12 @@ use Rattle.lists.proofs.Cases.{none_of}
 use Rattle.lists.proofs.Distinct.{distinct_apart}
 use Rattle.lists.proofs.Entries.{Contains-head}
 use Rattle.graphs.specs.declared.names.Level.TheVariants.{Main, Top}
-use Rattle.graphs.specs.Closures.{Closure, is_member, is_ancestor}
-use Rattle.graph_model.specs.declared.names.Refusal.{Refusal}
-use Rattle.graph_model.specs.declared.names.Refusal.TheVariants.{Twice, Unknown, Parent}
+use Rattle.graphs.specs.Closures.{Closure, is_member}
+use Rattle.graph_model.specs.declared.names.Refusal.TheVariants.{Unknown, Parent}
 use Rattle.graph_model.specs.Refusals.{IsFirst, StandsTwice}
 use Rattle.graph_model.proofs.FirstLemmas.{first_in}
 use Rattle.name_book.specs.Books.{IsNamed}
 use Rattle.name_book.specs.Calls.{Keeps, ReleasesAll, Touches}
-use Rattle.name_book.proofs.Named.{named-same}
 use Rattle.cluster.specs.Clusters.{Cluster}
 use Rattle.levels.specs.Kept.{IsKept, SuitsShelf}
 use Rattle.levels.specs.Mining.{FindsFirst, LacksListed, LacksTouched, MineRefusalIs}
@@ -27,7 +25,7 @@ use Rattle.levels.specs.Shelves.{Shelf, IsInOrder, numbers_at, seen_at, view_of}
 use Rattle.levels.specs.Views.{Numbers, graph_of}
 use Rattle.levels.proofs.Finds.{indexed_at}
 use Rattle.levels.proofs.Gaining.{right_reserved}
-use Rattle.levels.proofs.Graphs.{above_in, above_from, in_live, member-number, names_of_above}
+use Rattle.levels.proofs.Graphs.{above_in, above_from, member-number, names_of_above}
 use Rattle.levels.proofs.Seeking.{finds_alike}
 use Rattle.levels.proofs.Under.{held}
 

@@ -1,5 +1,5 @@
 -- A level is over the limits exactly where a cluster without an order stands in it, and else its parts are a pick.
-use Rattle.std.proofs.Common.{◌≡◌, ◌≢◌, ◌↔◌, ℕ, suc, zero, ◌*◌, ◌<◌, ◌≤◌, Bool, true, false, ◌&&◌, cond, List, [], ◌∷◌, length, Contains, get_or, Option, Some, None, IfSome, inl, inr, ◌⊎◌, refl, sym, ap, ◌∙◌, subst, arith, true≢false}
+use Rattle.std.proofs.Common.{◌≡◌, ◌≢◌, ◌↔◌, ℕ, ◌*◌, ◌<◌, Bool, true, false, ◌&&◌, cond, List, [], ◌∷◌, Contains, get_or, Option, Some, None, IfSome, inl, inr, ◌⊎◌, refl, sym, ap, ◌∙◌, subst, arith, true≢false}
 use Rattle.std.specs.Prelude.{option_map, sum_by}
 use Rattle.std.specs.List.{list_any}
 use Rattle.std.proofs.lemmas.Bool.{and_from, and_parts}
@@ -23,7 +23,7 @@ use Rattle.cluster_store.specs.Stores.{Numbered, Stored}
 use Rattle.cluster_store.specs.Unordered.{LacksOrder}
 use Rattle.cluster_store.proofs.Unions.{keyed, levels_are_picked}
 use Rattle.levels.specs.Levels.{HasPick, HavePicks, Levels, MayHavePick}
-use Rattle.levels.specs.Oversize.{AreOfOneComponent, IsOversized}
+use Rattle.levels.specs.Oversize.{IsOversized}
 use Rattle.levels.specs.Shelves.{Shelf, IsInOrder, levels_of, numbers_at, one_of, seen_at, seen_in, stored_at, view_of}
 use Rattle.levels.specs.Views.{IsIndexed, Numbers, graph_of}
 use Rattle.levels.proofs.Finds.{graph_is, indexed_at, is_level, seen}

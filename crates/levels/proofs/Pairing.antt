@@ -1,6 +1,6 @@
 -- One more pair between names of one cluster, or of two, as the clusters tell it that go out and come in.
-use Rattle.std.proofs.Common.{◌≡◌, ℕ, ◌+◌, ◌<◌, ◌≤◌, ◌*◌, true, ◌&&◌, ◌||◌, List, [], ◌∷◌, ◌++◌, length, get_or, Contains, Option, Some, inl, inr, ◌⊎◌, sym, ap, ◌∙◌, subst, subst₂, arith, length-append}
-use Rattle.std.specs.Prelude.{slice_get, slice_index, option_to_list, IfSome}
+use Rattle.std.proofs.Common.{◌≡◌, ℕ, ◌<◌, ◌≤◌, ◌*◌, true, ◌&&◌, List, [], ◌∷◌, ◌++◌, length, get_or, Contains, Option, Some, inl, inr, ◌⊎◌, sym, ap, ◌∙◌, subst, subst₂, arith, length-append}
+use Rattle.std.specs.Prelude.{slice_index, option_to_list, IfSome}
 use Rattle.std.proofs.lemmas.Bool.{and_from, and_parts, or_cases, or_left, or_right}
 use Rattle.std.proofs.lemmas.List.{get_or_append_left, get_or_default}
 use Rattle.std.proofs.lemmas.List.Elements.{Contains-append_left, Contains-append_right, Contains-append_cases}
@@ -9,7 +9,7 @@ use Rattle.std.specs.FinMap as finmap
 use Rattle.lists.specs.Distinct.{AreDistinct}
 use Rattle.lists.proofs.Entries.{Contains-head, Contains-later, Contains-cases, none_in_empty}
 use Rattle.graphs.specs.declared.names.Level.TheVariants.{Top}
-use Rattle.graphs.specs.Closures.{is_ancestor, is_member, rate_of, AddsPair}
+use Rattle.graphs.specs.Closures.{is_ancestor, rate_of, AddsPair}
 use Rattle.cluster.specs.Clusters.{Cluster}
 use Rattle.record.specs.Records.{IsConnected, IsFitted}
 use Rattle.cluster.specs.Changes.{AreAcross, IsAncestorIn, Joins, is_above}

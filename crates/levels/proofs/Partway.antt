@@ -1,11 +1,11 @@
 -- How far the clusters of the top level have lost names, where the names stand by rising number of their clusters.
-use Rattle.std.proofs.Common.{◌≡◌, ◌≢◌, ℕ, zero, suc, ◌+◌, ◌*◌, ◌<◌, ◌≤◌, Bool, true, false, not, nat_eq, true≢false, eqb-true, eq-eqb, List, [], ◌∷◌, ◌++◌, length, get_or, take, drop, map, All, Contains, Option, Some, None, IsSome, inl, inr, ◌⊎◌, ◌↔◌, refl, sym, ap, ◌∙◌, subst, subst₂, arith, length-append}
+use Rattle.std.proofs.Common.{◌≡◌, ◌≢◌, ℕ, ◌+◌, ◌*◌, ◌<◌, ◌≤◌, Bool, true, false, not, nat_eq, true≢false, eqb-true, eq-eqb, List, [], ◌∷◌, ◌++◌, length, get_or, drop, map, All, Contains, Option, Some, None, IsSome, inl, inr, ◌↔◌, refl, sym, ap, ◌∙◌, subst, subst₂, arith, length-append}
 use Rattle.std.specs.Prelude.{slice_get, slice_index, option_to_list}
 use Rattle.std.specs.FinMap as finmap
 use Rattle.std.specs.List.{AllPairs, list_any}
 use Rattle.std.specs.List.Sorted.{IsPermutation}
 use Rattle.std.proofs.lemmas.Bool.{cases_eq}
-use Rattle.std.proofs.lemmas.List.{append_assoc, append-nil, get_or_default, get_or-append-add, get_or-drop, length-drop, map-append, take-append-drop}
+use Rattle.std.proofs.lemmas.List.{append_assoc, append-nil, get_or_default, get_or-append-add, get_or-drop, length-drop, map-append}
 use Rattle.std.proofs.lemmas.List.Elements.{All-contains, Contains-append_left, Contains-append_right, Contains-append_cases, Contains-get_or}
 use Rattle.std.proofs.lemmas.List.Folds.{Any-from_list_any, list_any_at}
 use Rattle.std.proofs.lemmas.List.Sorted.{Contains-permutation, IsPermutation-append_comm, IsPermutation-append_right, IsPermutation-sym}
@@ -21,12 +21,11 @@ use Rattle.graph_model.specs.declared.names.Limits.{Limits}
 use Rattle.record.specs.Records.{IsConnected, IsFitted}
 use Rattle.record.specs.Steps.{most_steps_fit_of}
 use Rattle.levels.specs.Changes.{AreAt, IsNamed}
-use Rattle.levels.specs.Lefts.{AreLeft, AreListed, AreRests, DropsWithin, IsRun, Takes}
+use Rattle.levels.specs.Lefts.{AreLeft, AreListed, DropsWithin, IsRun, Takes}
 use Rattle.levels.specs.Moves.{DropsIn}
 use Rattle.levels.specs.Shelves.{IsInOrder, Shelf, numbers_at, seen_at, stored_at, view_of}
 use Rattle.levels.specs.Views.{graph_of}
 use Rattle.cluster_store.proofs.Listed.{at_joined, at_none, at_one}
-use Rattle.levels.proofs.Ends.{got}
 use Rattle.levels.proofs.Found.{cluster_of}
 use Rattle.levels.proofs.Graphs.{in_above, names_of_above, order_of}
 use Rattle.levels.proofs.Lookups.{placed_of}

@@ -1,12 +1,11 @@
 -- A shelf of which clusters went out and others came in: the numbers of names, and what was left of the store.
-use Rattle.std.proofs.Common.{◌≡◌, ◌≢◌, ◌==◌, ℕ, ◌+◌, ◌-◌, ◌*◌, ◌<◌, ◌≤◌, Bool, true, false, cond, if◌then◌else◌, nat_eq, List, [], ◌∷◌, ◌++◌, length, get_or, drop, Contains, Option, Some, None, is_some, IsSome, inl, inr, ◌⊎◌, refl, sym, ap, ◌∙◌, subst, subst₂, arith, eqb-true, length-append, length-drop, slice_index_or, take}
-use Rattle.std.specs.Prelude.{slice_get, slice_index, option_to_list, IfSome, sum_by}
+use Rattle.std.proofs.Common.{◌≡◌, ◌==◌, ℕ, ◌+◌, ◌-◌, ◌*◌, ◌<◌, ◌≤◌, Bool, true, false, if◌then◌else◌, List, [], ◌∷◌, ◌++◌, length, get_or, drop, Contains, Option, Some, None, is_some, inl, inr, refl, sym, ap, ◌∙◌, subst, subst₂, arith, eqb-true, length-append, length-drop, slice_index_or, take}
+use Rattle.std.specs.Prelude.{slice_get, slice_index, option_to_list, IfSome}
 use Rattle.std.specs.List.{AllPairs}
 use Rattle.std.proofs.lemmas.Bool.{cases_eq, cases_lt}
 use Rattle.std.proofs.lemmas.List.{append-nil, get_or-drop, get_or_append_left, get_or_default, get_or_push, take_more}
-use Rattle.std.proofs.lemmas.List.Sums.{sum_by-append}
 use Rattle.std.proofs.lemmas.List.Elements.{Contains-append_left, Contains-push, Contains-push_cases}
-use Rattle.std.proofs.lemmas.Option.{none-some, same_Some, slice_get-get_or}
+use Rattle.std.proofs.lemmas.Option.{slice_get-get_or}
 use Rattle.std.specs.FinMap as finmap
 use Rattle.lists.specs.Distinct.{AreDistinct}
 use Rattle.lists.proofs.Entries.{none_in_empty}

@@ -1,5 +1,5 @@
 -- A name's other fee, seen from the levels.
-use Rattle.std.proofs.Common.{◌≡◌, ℕ, ℤ, ◌+◌, ◌≤◌, Bool, true, ◌&&◌, List, length, Option, Some, None, is_some, inl, inr, ◌⊎◌, refl, sym, ap, ap₂, arith, ◌∙◌, subst, subst₂, Result, Ok, Err, OnOk, OnErr, IsSome}
+use Rattle.std.proofs.Common.{◌≡◌, ℕ, ℤ, ◌+◌, ◌≤◌, Bool, true, ◌&&◌, List, Option, Some, None, is_some, inl, inr, ◌⊎◌, refl, sym, ap, ap₂, arith, ◌∙◌, subst, subst₂, Result, Ok, Err, OnOk, OnErr, IsSome}
 use Rattle.std.specs.Prelude.{cond, unwrap_or}
 use Rattle.std.proofs.lemmas.Result.{on_ok_weaker, on_err_weaker}
 use Rattle.std.specs.FinMap as finmap

@@ -1,9 +1,8 @@
 -- The next run of names of one cluster, as a loop goes over them by rising number.
-use Rattle.std.proofs.Common.{◌≡◌, ◌≢◌, ℕ, ◌+◌, ◌*◌, ◌<◌, ◌≤◌, List, [], ◌∷◌, ◌++◌, length, get_or, take, drop, map, All, Contains, Option, Some, inl, inr, refl, sym, ap, ◌∙◌, subst, arith}
+use Rattle.std.proofs.Common.{◌≡◌, ◌≢◌, ℕ, ◌+◌, ◌*◌, ◌<◌, ◌≤◌, List, ◌++◌, length, get_or, take, drop, map, All, Contains, Option, Some, sym, ap, ◌∙◌, subst, arith}
 use Rattle.std.specs.Prelude.{slice_index_or}
-use Rattle.std.specs.FinMap as finmap
 use Rattle.std.specs.List.{AllPairs}
-use Rattle.std.proofs.lemmas.List.{get_or_default, length-take-le, take-append-drop}
+use Rattle.std.proofs.lemmas.List.{length-take-le, take-append-drop}
 use Rattle.std.proofs.lemmas.List.Elements.{All-contains, Contains-append_left, Contains-append_right}
 use Rattle.graphs.specs.declared.names.Level.TheVariants.{Top}
 use Rattle.cluster.specs.Changes.{AreComponents, IsSplit}
@@ -11,9 +10,9 @@ use Rattle.cluster.specs.Clusters.{Cluster}
 use Rattle.record.specs.Records.{IsFitted}
 use Rattle.record.specs.Steps.{most_steps_fit_of}
 use Rattle.levels.specs.Lefts.{AreListed, DropsWithin, IsRun, Takes}
-use Rattle.levels.specs.Shelves.{IsInOrder, Shelf, numbers_at, seen_at, view_of}
+use Rattle.levels.specs.Shelves.{IsInOrder, Shelf, seen_at, view_of}
 use Rattle.levels.specs.Views.{graph_of}
-use Rattle.levels.proofs.Partway.{IsPartway, later_away, names_of, one_more, pairs_back, run_cluster, steps_then}
+use Rattle.levels.proofs.Partway.{IsPartway, later_away, one_more, pairs_back, run_cluster, steps_then}
 
 module _ (w : ℕ) (shelf : Shelf) (order : IsInOrder w shelf) (ids : List ℕ) (listed : List (ℕ × ℕ)) (are : AreListed shelf ids listed) (outs : List ℕ)
     (rest : List Cluster) (last : Option Cluster) (coming : List (ℕ × ℕ)) (before mid : ℕ)

@@ -1,7 +1,6 @@
 -- What is seen of each level.
-use Rattle.std.proofs.Common.{◌≡◌, ℕ, Bool, true, false, cond, List, Option, Some, None, IsSome, inl, inr, ◌⊎◌, refl, sym, ap, ◌∙◌, true≢false}
+use Rattle.std.proofs.Common.{◌≡◌, ℕ, Bool, true, false, cond, List, Option, Some, None, inl, inr, ◌⊎◌, refl, sym, ap, ◌∙◌}
 use Rattle.std.specs.Prelude.{option_map, slice_index}
-use Rattle.std.proofs.lemmas.Bool.{cases_eq}
 use Rattle.std.proofs.lemmas.Option.{none-some, same_Some}
 use Rattle.std.specs.FinMap as finmap
 use Rattle.graphs.specs.declared.names.Level.{Level}
@@ -11,9 +10,8 @@ use Rattle.chunk_index.specs.declared.entry.Tag.TheVariants.{Both, MainOnly, Top
 use Rattle.chunk_index.specs.Items.{is_in}
 use Rattle.cluster.specs.Clusters.{Cluster}
 use Rattle.cluster_store.specs.Stores.{Stored, Numbered}
-use Rattle.cluster_store.specs.Changes.{Sets, moved_to}
 use Rattle.levels.specs.Changes.{AreAt}
-use Rattle.levels.specs.Shelves.{AllHave, StandsInTop, left_of, seen_in, seen_at, stored_at, tag_at, top_tag}
+use Rattle.levels.specs.Shelves.{AllHave, seen_in, seen_at, stored_at}
 
 -- what is seen in a level is stored
 pub seen_is_stored : (level : Level) (clusters : Numbered) (number : ℕ) (c : Cluster)

@@ -1,5 +1,5 @@
 -- Two names of the top level, the one of which becomes a parent of the other, and their clusters.
-use Rattle.std.proofs.Common.{◌≡◌, ◌≢◌, ℕ, ◌+◌, ◌*◌, ◌≤◌, length, List, Some, IsSome, inl, inr, ◌⊎◌, sym, ap, ◌∙◌, subst, subst₂, arith}
+use Rattle.std.proofs.Common.{◌≡◌, ◌≢◌, ℕ, ◌+◌, ◌*◌, ◌≤◌, length, List, Some, IsSome, inl, inr, sym, subst, subst₂, arith}
 use Rattle.std.specs.FinMap as finmap
 use Rattle.graphs.specs.declared.names.Level.TheVariants.{Top}
 use Rattle.graphs.specs.Closures.{Closure}

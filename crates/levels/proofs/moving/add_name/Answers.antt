@@ -1,5 +1,5 @@
 -- A cluster of one name comes in, and the rings gain the name.
-use Rattle.std.proofs.Common.{◌≤◌, ◌*◌, ◌++◌, ℤ, Contains, List, [], ◌∷◌, Some, sym, ap, ◌∙◌, subst, arith}
+use Rattle.std.proofs.Common.{◌≤◌, ◌*◌, ◌++◌, ℤ, Contains, List, [], ◌∷◌, Some, sym, subst, arith}
 use Rattle.std.proofs.lemmas.Int.{to_z-of_z}
 use Rattle.std.specs.Int.{w64}
 use Rattle.graphs.specs.declared.names.Level.TheVariants.{Top}
@@ -16,7 +16,7 @@ use Rattle.levels.specs.Changes.{AreAt, Covers}
 use Rattle.levels.specs.Shelves.{Shelf, numbers_at, seen_at}
 use Rattle.levels.specs.Tops.{IsMade}
 use Rattle.levels.proofs.Gaining.{absent_main, absent_top, adds_made, comes_new, none_kept, right_gained, right_reserved}
-use Rattle.levels.proofs.Rooms.{cluster_fits, record_fits, work_fits}
+use Rattle.levels.proofs.Rooms.{record_fits, work_fits}
 use Rattle.levels.proofs.moving.add_name.Given as given
 use Rattle.levels.proofs.moving.add_name.Goals as goal
 

@@ -3,11 +3,8 @@ use Rattle.fee_rate.specs.Limits.{IsRate}
 use Rattle.graphs.specs.Closures.{is_member, rate_of}
 use Rattle.levels.specs.Levels.{OneLevel}
 use Rattle.levels.proofs.Finds.{both_at, level_is}
-use Rattle.levels.specs.Oversize.{IsOversized}
-use Rattle.levels.specs.Shelves.{one_of}
 use Rattle.levels.proofs.Keeping.{few_kept}
 use Rattle.levels.proofs.Summing.{rated}
-use Rattle.graphs.specs.declared.names.Level.{Level}
 use Rattle.graphs.specs.declared.names.Level.TheVariants.{Main, Top}
 use Rattle.levels.specs.Orders.{ComparesParts}
 use Rattle.levels.proofs.levels.Levels.compare.Goals as goal

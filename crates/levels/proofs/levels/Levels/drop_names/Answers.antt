@@ -1,5 +1,5 @@
 -- Names that the top level has are dropped from it.
-use Rattle.std.proofs.Common.{arith, ◌∙◌, sym, ap, subst, subst₂}
+use Rattle.std.proofs.Common.{arith, ◌∙◌, sym, ap, subst₂}
 use Rattle.graphs.specs.Closures.{Closure}
 use Rattle.graphs.specs.declared.names.Level.TheVariants.{Top}
 use Rattle.levels.specs.Kept.{IsKept}

@@ -1,5 +1,5 @@
 -- A cluster without an order stands in the level exactly where a component is over the limits.
-use Rattle.std.proofs.Common.{◌≡◌, ◌↔◌, sym, subst}
+use Rattle.std.proofs.Common.{◌↔◌, sym, subst}
 use Rattle.std.specs.Prelude.{IsTrue}
 use Rattle.levels.proofs.Finds.{over_is}
 use Rattle.levels.proofs.Oversizing.{lacks_exactly}

@@ -1,5 +1,5 @@
 -- A name has the fee and size that its cluster has of it.
-use Rattle.std.proofs.Common.{◌≡◌, ◌*◌, Contains, Some, is_some, sym, ap, ◌∙◌, arith, subst}
+use Rattle.std.proofs.Common.{◌≡◌, ◌*◌, Contains, is_some, sym, ap, ◌∙◌, arith, subst}
 use Rattle.std.proofs.lemmas.Option.{same_Some}
 use Rattle.graphs.specs.Closures.{Closure, rate_of}
 use Rattle.cluster.specs.Clusters.{Cluster}

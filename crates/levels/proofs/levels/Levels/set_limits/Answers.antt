@@ -1,5 +1,5 @@
 -- No name, and so no cluster, is there that could be over the new limits.
-use Rattle.std.proofs.Common.{◌≡◌, arith}
+use Rattle.std.proofs.Common.{arith}
 use Rattle.levels.proofs.Keeping.{kept_limited, levels_limited}
 use Rattle.levels.proofs.Oversizing.{have_picks, none_stored}
 use Rattle.levels.proofs.levels.Levels.set_limits.Goals as goal

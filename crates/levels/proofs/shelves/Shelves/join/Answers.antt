@@ -2,8 +2,6 @@
 use Rattle.std.proofs.Common.{◌≡◌, ◌≤◌, ◌+◌, ◌*◌, [], ◌∷◌, length, Some, refl, sym, ap, subst, arith}
 use Rattle.lists.proofs.Entries.{none_in_empty}
 use Rattle.graphs.specs.declared.names.Level.TheVariants.{Top}
-use Rattle.cluster.specs.Clusters.{Cluster}
-use Rattle.levels.specs.Moves.{PairsIn}
 use Rattle.levels.specs.Shelves.{Shelf, numbers_at, seen_at}
 use Rattle.cluster_store.proofs.Listed.{only_one}
 use Rattle.levels.proofs.Making.{at_two, covers_joined}

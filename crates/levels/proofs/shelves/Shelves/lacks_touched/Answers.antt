@@ -1,8 +1,7 @@
 -- The store tells it of what is stored under the number.
-use Rattle.std.proofs.Common.{◌≡◌, ◌↔◌, ℕ, Contains, Some, true, arith, sym, ap, ◌∙◌, subst}
+use Rattle.std.proofs.Common.{◌↔◌, Contains, arith, sym, ap, ◌∙◌, subst}
 use Rattle.std.specs.Prelude.{IsTrue}
 use Rattle.cluster.specs.Clusters.{Cluster}
-use Rattle.cluster_store.specs.Stores.{Stored}
 use Rattle.levels.specs.Mining.{LacksTouched}
 use Rattle.levels.specs.Shelves.{Shelf, stored_at}
 use Rattle.levels.proofs.Seen.{slot_of, stored_of}

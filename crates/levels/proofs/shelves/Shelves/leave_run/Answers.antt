@@ -3,7 +3,6 @@ use Rattle.std.proofs.lemmas.Result.{on_ok_weaker}
 use Rattle.std.proofs.lemmas.Option.{same_Some}
 use Rattle.cluster.specs.Changes.{AreComponents, IsSplit}
 use Rattle.cluster.specs.Clusters.{Cluster}
-use Rattle.levels.specs.Lefts.{Takes}
 use Rattle.levels.proofs.Partway.{names_of, run_held, run_seen, run_stored}
 use Rattle.graph_model.specs.declared.names.Limits.{Limits}
 use Rattle.record.specs.Leaving.{MayLose}

@@ -3,8 +3,6 @@ use Rattle.std.proofs.Common.{◌*◌, ◌≡◌, ◌≤◌, ℕ, List, [], ◌�
 use Rattle.std.proofs.lemmas.List.{append-nil}
 use Rattle.lists.proofs.Entries.{none_in_empty}
 use Rattle.graphs.specs.declared.names.Level.TheVariants.{Top}
-use Rattle.cluster.specs.Clusters.{Cluster}
-use Rattle.levels.specs.Moves.{PairsIn}
 use Rattle.levels.specs.Shelves.{numbers_at, seen_at}
 use Rattle.cluster_store.proofs.Listed.{at_one}
 use Rattle.levels.proofs.Making.{covers_same}

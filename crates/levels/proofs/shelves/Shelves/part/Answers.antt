@@ -3,7 +3,7 @@ use Rattle.graphs.specs.declared.names.Level.TheVariants.{Main}
 use Rattle.cluster_store.specs.Lent.{lent}
 use Rattle.levels.proofs.Places.{part_ordered, part_there, seen_there}
 use Rattle.levels.proofs.Rooms.{cluster_fits}
-use Rattle.std.proofs.Common.{◌≡◌, ◌≤◌, arith, Some, sym, ◌∙◌, subst}
+use Rattle.std.proofs.Common.{◌≡◌, arith, Some, sym, ◌∙◌, subst}
 use Rattle.std.specs.Prelude.{slice_get}
 use Rattle.std.proofs.lemmas.Option.{same_Some, slice_get_within}
 use Rattle.cluster.specs.Clusters.{Cluster}

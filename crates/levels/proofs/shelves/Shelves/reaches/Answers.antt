@@ -1,6 +1,5 @@
 -- The store tells it of what is stored under the number.
-use Rattle.std.proofs.Common.{◌≡◌, Contains, Some, arith, sym, ap, ◌∙◌, subst}
-use Rattle.std.proofs.lemmas.Option.{same_Some}
+use Rattle.std.proofs.Common.{Contains, arith, sym, ap, ◌∙◌, subst}
 use Rattle.graphs.specs.Closures.{is_ancestor}
 use Rattle.cluster.specs.Clusters.{Cluster}
 use Rattle.levels.specs.Shelves.{Shelf, stored_at}

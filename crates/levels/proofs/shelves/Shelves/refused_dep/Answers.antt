@@ -1,10 +1,9 @@
 -- A pair of names is refused by the rows of its clusters.
-use Rattle.std.proofs.Common.{◌≡◌, ◌+◌, ◌*◌, ◌≤◌, length, Option, Some, None, Result, MatchResult, subst, sym, ap, ◌∙◌, rules, arith}
+use Rattle.std.proofs.Common.{◌+◌, length, Option, Some, None, Result, MatchResult, subst, sym, ap, ◌∙◌, arith}
 use Rattle.graphs.specs.declared.names.Level.TheVariants.{Top}
-use Rattle.cluster.specs.Clusters.{Cluster}
 use Rattle.graph_model.specs.declared.names.Refusal.{Refusal}
 use Rattle.levels.specs.Joins.{DepRefusalIs, SumRefusalIs}
-use Rattle.levels.specs.Shelves.{Shelf, stored_at, view_of}
+use Rattle.levels.specs.Shelves.{Shelf, view_of}
 use Rattle.levels.specs.Views.{graph_of}
 use Rattle.levels.proofs.Fewer.{both_few}
 use Rattle.levels.proofs.Rooms.{record_fits}

@@ -1,5 +1,5 @@
 -- There is no cluster that could be over the new limits.
-use Rattle.std.proofs.Common.{sym, ap, ◌∙◌, subst}
+use Rattle.std.proofs.Common.{ap, ◌∙◌}
 use Rattle.levels.specs.Shelves.{Shelf, stored_at}
 use Rattle.levels.proofs.Calls.{shelf_of}
 use Rattle.levels.proofs.Standing.{order_limited}

@@ -1,5 +1,5 @@
 -- Two names of one cluster: the second call asks of the shelves as they were.
-use Rattle.std.proofs.Common.{◌≡◌, Contains, Some, arith, sym, ap, ◌∙◌, inl, inr}
+use Rattle.std.proofs.Common.{arith, ap, ◌∙◌}
 use Rattle.levels.specs.Shelves.{Shelf, stored_at}
 use Rattle.levels.proofs.shelves.Shelves.way_within.Goals as goal
 

@@ -1,5 +1,5 @@
 -- The cluster of a number gets another fee of one of its names.
-use Rattle.std.proofs.Common.{ℤ, length, Contains, is_some, sym, ap, ◌∙◌, subst, arith}
+use Rattle.std.proofs.Common.{ℤ, Contains, is_some, sym, ap, ◌∙◌, subst, arith}
 use Rattle.std.specs.Int.{w64}
 use Rattle.std.proofs.lemmas.Int.{to_z-of_z}
 use Rattle.std.proofs.lemmas.Option.{same_Some}
