@@ -9,7 +9,6 @@ pub mod ChangeLemmas
 pub mod RestoreLemmas
 pub mod MinedLemmas
 pub mod StepLemmas
-pub mod LimitLemmas
 pub mod EdgeLemmas
 pub mod TrimLemmas
 pub mod TrimmedLemmas

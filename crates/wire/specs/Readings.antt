@@ -1,5 +1,5 @@
 -- What a line as the program keeps it says, with the names that it lists apart.
-use Rattle.std.specs.Prelude.{◌≡◌, ℕ, false, true, if◌then◌else◌, List, Option, None, Some}
+use Rattle.std.specs.Prelude.{◌≡◌, ℕ, false, true, List, Option, None, Some}
 use Rattle.wire.specs.declared.line.Line.{Line}
 use Rattle.wire.specs.declared.line.Line.TheVariants as lines
 use Rattle.graph_model.specs.Limits.{bounds_of}
@@ -38,7 +38,6 @@ said_by lines.Dump ids = Says commands.Dump
 
 -- The meaning as far as the program does commands: a line of one that isn't built yet is in no form. These rows go with the bodies.
 abbrev pub meaning_of : Line → List ℕ → Meaning
-meaning_of (lines.Limits set) ids = if set.defer then NoForm else Says (commands.SetLimits (bounds_of set))
 meaning_of lines.Trim ids = NoForm
 meaning_of lines.Unmine ids = NoForm
 meaning_of lines.Dump ids = NoForm
