@@ -30,3 +30,4 @@ pub mod SoundLemmas
 pub mod LoadLemmas
 pub mod DrawnLemmas
 pub mod SummaryLemmas
+pub mod LimitLemmas

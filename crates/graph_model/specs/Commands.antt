@@ -1,6 +1,6 @@
 -- Commands, and how each is spelled. A command has one spelling: its words with one space between
 -- them, and each number without leading zeros.
-use Rattle.std.specs.Prelude.{◌≡◌, ◌≢◌, ℕ, ℤ, ◌^◌, ◌<◌, Bool, true, false, List, [], ◌∷◌, map, codes, decimal, FitsSigned, All}
+use Rattle.std.specs.Prelude.{◌≢◌, ℕ, ℤ, ◌^◌, ◌<◌, Bool, true, false, List, [], ◌∷◌, map, codes, decimal, FitsSigned, All}
 use Rattle.std.specs.Fmt.{signed_decimal}
 use Rattle.std.specs.Int.{w64}
 use Rattle.graphs.specs.declared.names.Level.{Level}

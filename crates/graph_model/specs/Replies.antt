@@ -115,3 +115,8 @@ evicted_reply (Err why) = Refused why
 abbrev pub block_reply : {E : Type 0} → Result Picked E → Reply
 block_reply (Ok picked) = Built (picked_sum picked) picked.ids
 block_reply (Err none) = Refused Memory
+
+-- the same where the cause of a refusal is told
+abbrev pub built_reply : Result Picked Refusal → Reply
+built_reply (Ok picked) = Built (picked_sum picked) picked.ids
+built_reply (Err why) = Refused why

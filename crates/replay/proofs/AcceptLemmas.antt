@@ -2,6 +2,7 @@
 use Rattle.std.proofs.Common.{◌≡◌, ℕ, ◌<◌, ◌≤◌, false, true, List, [], ◌∷◌, ◌++◌, Bool, cond, ◌+◌, length, refl, sym, ap, subst, subst₂, ◌∙◌, inl, inr, arith, length-append, append-nil, true≢false, Option, None, Some}
 use Rattle.std.specs.Prelude.{◌↔◌, ◌⊎◌, ◌==◌, Contains}
 use Rattle.std.specs.List.{zip}
+use Rattle.std.proofs.lemmas.Option.{same_Some}
 use Rattle.lists.proofs.Entries.{Contains-cases, none_in_empty}
 use Rattle.outside.specs.Transfers.{AppendsFront}
 use Rattle.graphs.specs.declared.names.Level.{Level}
@@ -13,15 +14,14 @@ use Rattle.graph_model.specs.Commands.{Command, Proof, words_of}
 use Rattle.graph_model.specs.States.{State, level_of, pick_of, start}
 use Rattle.graph_model.specs.Validity.{IsValidState}
 use Rattle.graph_model.specs.Answers.{ProvesOrder}
-use Rattle.graph_model.specs.Replies.{Reply, Proves, text_of}
+use Rattle.graph_model.specs.declared.names.Refusal.TheVariants.{Oversized}
+use Rattle.graph_model.specs.Replies.{Reply, Proves, Refused, text_of}
 use Rattle.graph_model.specs.Steps.{Step}
 use Rattle.graph_model.specs.Runs.{Answer, Silence, TooLong, Unread, Replies, answer_text, LineStep, Run}
 use Rattle.graph_model.specs.Texts.{Text, Verification, NoSyntax, Found, Verifies, text_lines, verification_text}
 use Rattle.replay.specs.declared.session.TheConstants.{MOST_NAMES}
 use Rattle.graph_model.proofs.ProofLemmas.{proofs_are_certificates}
 use Rattle.graph_model.proofs.StepLemmas.{steps_keep_valid}
-use Rattle.graph_model.proofs.LimitLemmas.{line_strict}
-use Rattle.graph_model.proofs.ValidLemmas.{top_level}
 use Rattle.graph_model.specs.Oversize.{IsOversized}
 use Rattle.wire.proofs.CommandLemmas.{one_command}
 use Rattle.wire.proofs.CutLemmas.{one_cut}
@@ -164,41 +164,56 @@ proof_short : (level : Level) → length (spaced (words_of (Proof level))) ≤ 1
 proof_short Main = omega arith
 proof_short Top = omega arith
 
--- where no dependency may pass the limits no level is oversized
-none_over : (state : State) (level : Level) → IsValidState state → state.plain.limits.defer ≡ false → IsOversized state.plain level → ⊥
-none_over state Main valid strict = valid.plain.main.within strict
-none_over state Top valid strict = (top_level state.plain valid.plain).within strict
+-- `proof` is refused where the level is oversized, and else its reply is accepted
+step_answered : {K : Type 0} (written : K → Option (List ℕ)) (old new : State) (level : Level) (reply : Reply) → IsValidState old
+    → Step old (Proof level) reply new → (reply ≡ Refused Oversized) ⊎ AreAccepted written (text_of reply)
+step_answered written old new level reply valid step = elim step [
+  | inl refused ↦ elim refused.first [
+    | inl over ↦ inl (refused.told ∙ ap Refused (same_Some refused.why Oversized over.1))
+    | inr rest ↦ absurd (let none : Some refused.why ≡ None = rest.1 in cc)
+  ]
+  | inr rest ↦ elim rest [
+    | inl want ↦ elim want [ inl lacks ↦ absurd lacks.may | inr gives ↦ absurd gives.may ]
+    | inr fine ↦ elim fine.none [
+      | inl over ↦ absurd (let some : None ≡ Some Oversized = over.1 in cc)
+      | inr fits ↦ inr (step_accepted written old new level reply valid fits.0 (inr (inr fine)))
+    ]
+  ]
+]
 
 line_accepted : {K : Type 0} (written : K → Option (List ℕ)) (old new : State) (line : List ℕ) (level : Level) (answer : Answer) → IsValidState old
-    → old.plain.limits.defer ≡ false → Means line (Says (Proof level)) → LineStep old line answer new → AreAccepted written (answer_text answer)
-line_accepted written old new line level Silence valid strict means step = absurd (true≢false (sym step.1 ∙ means.0))
-line_accepted written old new line level TooLong valid strict means step =
+    → Means line (Says (Proof level)) → LineStep old line answer new
+    → (answer ≡ Replies (Refused Oversized)) ⊎ AreAccepted written (answer_text answer)
+line_accepted written old new line level Silence valid means step = absurd (true≢false (sym step.1 ∙ means.0))
+line_accepted written old new line level TooLong valid means step =
     absurd (omega (arith, step.0, one_longer line, ap length means.1.0, proof_short level))
-line_accepted written old new line level Unread valid strict means step = absurd (step.1.1 (Proof level) means.1 means.2)
-line_accepted written old new line level (Replies reply) valid strict means (short, command, others, step) =
+line_accepted written old new line level Unread valid means step = absurd (step.1.1 (Proof level) means.1 means.2)
+line_accepted written old new line level (Replies reply) valid means (short, command, others, step) =
     let same : command ≡ Proof level = one_command (without_return line) command (Proof level) others.1 means.1 in
-    step_accepted written old new level reply valid (none_over old level valid strict) (subst (λ (c : Command). Step old c reply new) same step)
+    elim (step_answered written old new level reply valid (subst (λ (c : Command). Step old c reply new) same step)) [
+      | inl refused ↦ inl (ap Replies refused)
+      | inr accepted ↦ inr accepted
+    ]
 
 -- each line of a run with its answer is a step from a valid state
 accepted_in : {K : Type 0} (written : K → Option (List ℕ)) (old end : State) (lines : List (List ℕ)) (answers : List Answer) → IsValidState old
-    → old.plain.limits.defer ≡ false → Run old lines answers end → (line : List ℕ) (level : Level) (answer : Answer)
+    → Run old lines answers end → (line : List ℕ) (level : Level) (answer : Answer)
     → Contains (zip lines answers) (line, answer)
-    → Means line (Says (Proof level)) → AreAccepted written (answer_text answer)
-accepted_in written old end [] answers valid strict run line level answer here means = absurd (none_in_empty (line, answer) here)
-accepted_in written old end (first ∷ lines) [] valid strict run line level answer here means = absurd run
-accepted_in written old end (first ∷ lines) (reply ∷ answers) valid strict (next, step, run) line level answer here means =
+    → Means line (Says (Proof level)) → (answer ≡ Replies (Refused Oversized)) ⊎ AreAccepted written (answer_text answer)
+accepted_in written old end [] answers valid run line level answer here means = absurd (none_in_empty (line, answer) here)
+accepted_in written old end (first ∷ lines) [] valid run line level answer here means = absurd run
+accepted_in written old end (first ∷ lines) (reply ∷ answers) valid (next, step, run) line level answer here means =
     elim (Contains-cases (first, reply) (line, answer) (zip lines answers) here) [
       | inl same ↦
           let is : first ≡ line = ap (λ (pair : List ℕ × Answer). pair.0) same in
           let gets : reply ≡ answer = ap (λ (pair : List ℕ × Answer). pair.1) same in
-          line_accepted written old next line level answer valid strict means (subst₂ (λ (l : List ℕ) (a : Answer). LineStep old l a next) is gets step)
-      | inr later ↦ accepted_in written next end lines answers (line_valid old next first reply valid step)
-          (line_strict old next first reply step strict) run line level answer later means
+          line_accepted written old next line level answer valid means (subst₂ (λ (l : List ℕ) (a : Answer). LineStep old l a next) is gets step)
+      | inr later ↦ accepted_in written next end lines answers (line_valid old next first reply valid step) run line level answer later means
     ]
 
 pub check_accepts_proofs : {K : Type 0} (written : K → Option (List ℕ)) → CheckAcceptsProofs written
 check_accepts_proofs written = record {
   steps = step_accepted written;
   runs = λ lines answers end run.
-      accepted_in written (start MOST_NAMES) end lines answers (steps_keep_valid.begins MOST_NAMES (omega arith) (omega arith)) refl run;
+      accepted_in written (start MOST_NAMES) end lines answers (steps_keep_valid.begins MOST_NAMES (omega arith) (omega arith)) run;
 }

@@ -14,6 +14,7 @@ pub mod AcceptLemmas
 pub mod AheadLemmas
 pub mod Rooms
 pub mod PlayLemmas
+pub mod RefusedLemmas
 pub mod CornerLemmas
 pub mod SummaryLemmas
 pub mod AskedLemmas

@@ -1,12 +1,17 @@
 -- Commands that a number gives, answered one after another.
-use Rattle.std.proofs.Common.{◌≡◌, ◌≢◌, ℕ, ◌+◌, ◌-◌, ◌<◌, ◌≤◌, suc, List, [], ◌∷◌, ◌++◌, refl, sym, subst, arith, append_assoc, append-nil, true, false}
+use Rattle.std.proofs.Common.{◌≡◌, ◌≢◌, ℕ, ◌+◌, ◌-◌, ◌<◌, ◌≤◌, suc, List, [], ◌∷◌, ◌++◌, refl, sym, ap, subst, arith, append_assoc, append-nil, true, false}
 use Rattle.wire.specs.declared.line.Line.{Line}
 use Rattle.wire.specs.declared.line.Line.TheVariants as lines
 use Rattle.wire.specs.Readings.{meaning_of}
+use Rattle.graphs.specs.declared.names.Level.TheVariants.{Main}
+use Rattle.graph_model.specs.Limits.{Bounds}
 use Rattle.graph_model.specs.States.{State, start}
 use Rattle.graph_model.specs.Replies.{Reply}
 use Rattle.graph_model.specs.Runs.{CommandsRun}
 use Rattle.graph_model.specs.Generators.{drawn_command, commands_from, generated}
+use Rattle.graph_model.proofs.LimitLemmas.{generated_keep}
+use Rattle.levels.specs.Levels.{IsWithin}
+use Rattle.tx_graph.proofs.Oversizing.{oversized_at}
 use Rattle.tx_graph.specs.Kept.{Kept, StandsFor, MakesStep}
 use Rattle.replay.specs.declared.session.TheConstants.{MOST_NAMES}
 use Rattle.replay.specs.declared.tally.Tally.{Tally}
@@ -16,8 +21,7 @@ use Rattle.replay.specs.Requests.{MinesSome}
 -- a line that lists no names says what it says, whatever names stand beside it
 pub meaning_alone : (line : Line) (ids : List ℕ) → line ≢ lines.Mine → meaning_of line ids ≡ meaning_of line []
 meaning_alone lines.Mine ids other = absurd (other refl)
-meaning_alone (lines.Limits set true) ids other = refl
-meaning_alone (lines.Limits set false) ids other = refl
+meaning_alone (lines.Limits set) ids other = refl
 meaning_alone lines.Quiet ids other = refl
 meaning_alone lines.Syntax ids other = refl
 meaning_alone (lines.Add id fee size) ids other = refl
@@ -47,8 +51,7 @@ meaning_alone lines.Dump ids other = refl
 -- and isn't to mine no transaction
 pub none_mined : (line : Line) (ids : List ℕ) → line ≢ lines.Mine → MinesSome (meaning_of line ids)
 none_mined lines.Mine ids other = absurd (other refl)
-none_mined (lines.Limits set true) ids other = λ e. cc
-none_mined (lines.Limits set false) ids other = λ e. cc
+none_mined (lines.Limits set) ids other = λ e. cc
 none_mined lines.Quiet ids other = λ e. cc
 none_mined lines.Syntax ids other = λ e. cc
 none_mined (lines.Add id fee size) ids other = λ e. cc
@@ -135,3 +138,10 @@ played_all seed count kept tally x k all playing = record {
   where
     none : (count k : ℕ) → count ≤ k → 0 ≡ count - k
     none count k all = omega (arith, all)
+
+-- generated commands leave the limits of the start, which no dependency may pass
+pub played_within : (seed count : ℕ) (kept : Kept) (tally : Tally) → IsPlayed seed count kept tally → IsWithin kept.levels Main
+played_within seed count kept tally played over =
+    let strict : played.state.plain.limits.defer ≡ false =
+    ap (λ (b : Bounds). b.defer) (generated_keep count seed 1 (start MOST_NAMES) played.state played.replies played.run) in
+    played.stands.plain.valid.main.within strict ((oversized_at kept played.state.plain played.stands.plain Main).0 over)

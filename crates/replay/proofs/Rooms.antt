@@ -5,7 +5,7 @@ use Rattle.std.proofs.Common.{ℕ, zero, suc, ◌+◌, ◌*◌, ◌<◌, ◌≤�
 
 -- how many bytes a graph takes, whatever its width
 abbrev pub graph_room : ℕ → ℕ
-graph_room w = 1000
+graph_room w = 1008
 
 -- and one component
 abbrev pub cluster_room : ℕ → ℕ

@@ -10,10 +10,11 @@ use Rattle.graph_model.specs.Lines.{Means, Says, max_input}
 use Rattle.graph_model.specs.Commands.{Proof}
 use Rattle.graph_model.specs.States.{State, start}
 use Rattle.graph_model.specs.Oversize.{IsOversized}
+use Rattle.graph_model.specs.declared.names.Refusal.TheVariants.{Oversized}
 use Rattle.graph_model.specs.Validity.{IsValidState}
-use Rattle.graph_model.specs.Replies.{Reply, text_of}
+use Rattle.graph_model.specs.Replies.{Reply, Refused, text_of}
 use Rattle.graph_model.specs.Steps.{Step}
-use Rattle.graph_model.specs.Runs.{Answer, answer_text, Run}
+use Rattle.graph_model.specs.Runs.{Answer, Replies, answer_text, Run}
 use Rattle.graph_model.specs.Texts.{Verification, Found}
 use Rattle.replay.specs.declared.session.TheConstants.{MOST_NAMES}
 use Rattle.replay.specs.declared.top.Status.{Status}
@@ -44,10 +45,10 @@ pub record AreAccepted {K : Type 0} (written : K → Option (List ℕ)) (bytes :
       → SaysYes status written old new × (EndsWell status → (status ≡ statuses.Done) ⊎ (status ≡ statuses.NoMemory))
 
 -- In a valid state, where the level isn't oversized, the text of the reply to `proof` is accepted. So in every run from the start, whatever
--- lines come before it, the bytes that answer a line which says `proof` are accepted.
+-- lines come before it, a line which says `proof` is answered by bytes that are accepted, or by the refusal of an oversized level.
 pub record CheckAcceptsProofs {K : Type 0} (written : K → Option (List ℕ)) : Type 0 where
   pub steps : (old new : State) (level : Level) (reply : Reply) → IsValidState old → (IsOversized old.plain level → ⊥) → Step old (Proof level) reply new
       → AreAccepted written (text_of reply)
   pub runs : (lines : List (List ℕ)) (answers : List Answer) (end : State) → Run (start MOST_NAMES) lines answers end
       → (line : List ℕ) (level : Level) (answer : Answer) → Contains (zip lines answers) (line, answer) → Means line (Says (Proof level))
-      → AreAccepted written (answer_text answer)
+      → (answer ≡ Replies (Refused Oversized)) ⊎ AreAccepted written (answer_text answer)

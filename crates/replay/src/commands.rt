@@ -1,8 +1,7 @@
-ghost use Rattle.std.specs.Prelude.{◌≡◌, ◌≢◌, [], ℕ, ◌+◌, ◌-◌, ◌^◌, ◌<◌, ◌≤◌, List, length, IfErr};
+ghost use Rattle.std.specs.Prelude.{◌≡◌, ◌≢◌, [], ℕ, ◌+◌, ◌-◌, ◌^◌, ◌<◌, ◌≤◌, List, length};
 ghost use Rattle.wire.specs.Readings.{meaning_of};
 ghost use Rattle.graph_model.specs.Commands.{Block, Mine};
-ghost use Rattle.graph_model.specs.Replies.{block_reply, change_reply};
-ghost use Rattle.graph_model.specs.declared.names.Refusal.TheVariants.{Memory};
+ghost use Rattle.graph_model.specs.Replies.{built_reply, change_reply};
 ghost use Rattle.tx_graph.specs.Kept.{Kept, MakesStep};
 ghost use Rattle.replay.specs.Answers.{AnswersMeaning, MayTell, answer_of, IsReadOf, WritesAnswer};
 ghost use Rattle.replay.specs.Requests.{MinesSome, asked, reading_command};
@@ -15,7 +14,7 @@ use crate::session::Piece;
 use crate::writing::{write_diagram, write_order, write_part, write_proof};
 use block_builder::Builder;
 use eviction::evict;
-use graph_model::{IdBuf, MAX_LINE, Picked, Refusal};
+use graph_model::{IdBuf, Level, MAX_LINE, Picked, Refusal};
 use outside::{Failed, Sink};
 use std::alloc::Global;
 use std::marker::Brand;
@@ -222,15 +221,17 @@ fn mine_listed<const W: usize, L: Ledger>(
     graph.mine(ids.ids(), steps)
 }
 
-/// The block of main of at most so many virtual bytes.
+/// The block of main of at most so many virtual bytes. Refuses where main is oversized.
 fn fill_block<const W: usize>(
     alloc: Global,
     graph: &TxGraph<W>,
     size: u64,
 ) -> Result<Picked, Refusal>
-    ensures step { MakesStep graph.now graph.now (Block size) (block_reply result) }
-    ensures err { IfErr result (λ why. why ≡ Memory) }
+    ensures { MakesStep graph.now graph.now (Block size) (built_reply result) }
 {
+    if graph.oversized(Level::Main) {
+        return Err(Refusal::Oversized);
+    }
     match Builder::new(alloc, graph).fill(size) {
         Ok(picked) => Ok(picked),
         Err(_) => Err(Refusal::Memory),

@@ -67,8 +67,8 @@ impl From<Line> for Request {
         match line {
             Line::Quiet => Request::Silence,
             Line::Syntax => Request::Unread,
-            Line::Trim | Line::Unmine | Line::Dump | Line::Limits(_, true) => Request::Unread,
-            Line::Limits(limits, false) => Request::Change(Change::Limits(limits)),
+            Line::Trim | Line::Unmine | Line::Dump => Request::Unread,
+            Line::Limits(limits) => Request::Change(Change::Limits(limits)),
             Line::Add(id, fee, size) => Request::Change(Change::Add(id, fee, size)),
             Line::Dep(parent, child) => Request::Change(Change::Dep(parent, child)),
             Line::Fee(id, fee) => Request::Change(Change::Fee(id, fee)),

@@ -125,8 +125,9 @@ impl<const W: usize> Session<W> {
         found.tell(&self.graph, self.ids.ids(), sink)
     }
 
-    /// How much main has.
+    /// How much main has, which isn't oversized.
     pub(crate) fn totals(&self) -> Totals
+        requires { IsWithin self.now.levels Main }
         ensures { (state : State) → StandsFor self.now state → AreTotals state.plain result }
     {
         main_totals(&self.graph)

@@ -1,7 +1,9 @@
 ghost use Rattle.std.specs.Prelude.{◌≡◌, ℕ, ℤ, List, length};
 ghost use Rattle.std.specs.Iterator.{IsFinite};
 ghost use Rattle.diagram.specs.Points.{YieldsCorners};
+ghost use Rattle.graphs.specs.declared.names.Level.TheVariants.{Main};
 ghost use Rattle.graph_model.specs.States.{State};
+ghost use Rattle.levels.specs.Levels.{IsWithin};
 ghost use Rattle.tx_graph.specs.Kept.{StandsFor};
 ghost use Rattle.replay.specs.Generations.{AreTotals, last_sum};
 
@@ -18,8 +20,9 @@ pub(crate) struct Totals {
     pub(crate) corners: u64,
 }
 
-/// The totals of main.
+/// The totals of main, which isn't oversized.
 pub(crate) fn main_totals<const W: usize>(graph: &TxGraph<W>) -> Totals
+    requires { IsWithin graph.now.levels Main }
     ensures { (state : State) → StandsFor graph.now state → AreTotals state.plain result }
 {
     let (corners, total) = last_corner(graph.diagram(Level::Main));

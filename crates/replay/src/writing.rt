@@ -3,13 +3,13 @@ ghost use Rattle.std.specs.Iterator.{AlwaysYields, IsFinite};
 ghost use Rattle.graph_model.specs.Answers.{order_of};
 ghost use Rattle.graph_model.specs.Commands as commands;
 ghost use Rattle.graph_model.specs.Runs as runs;
-ghost use Rattle.graph_model.specs.Replies.{point_line};
+ghost use Rattle.graph_model.specs.Replies.{Refused, point_line};
 ghost use Rattle.graph_model.specs.Words.{line_text};
 ghost use Rattle.outside.specs.Transfers.{Writes};
 ghost use Rattle.graph_model.specs.Texts.{chunk_line, edge_line, flow_line, part_lines};
 ghost use Rattle.cluster_store.specs.Lent.{lent};
 ghost use Rattle.replay.specs.Answers.{IsReadOf, WritesAnswer};
-ghost use Rattle.levels.specs.Levels.{level_at};
+ghost use Rattle.levels.specs.Levels.{IsWithin, level_at};
 ghost use Rattle.tx_graph.specs.Readings.{part_reply};
 ghost use Rattle.replay.specs.Writings.{GoesOnLines, ListsEach, ListsOwn, line_of, tx_line_of, edges_lines};
 
@@ -73,7 +73,7 @@ fn more_chunks<const W: usize, K: Sink>(
     so_far
 }
 
-/// Writes the reply to `order`: the parts in their order, and `end`.
+/// Writes the reply to `order`: the parts in their order, and `end`; or that the level is oversized.
 pub(crate) fn write_order<const W: usize, K: Sink>(
     graph: &TxGraph<W>,
     level: Level,
@@ -82,6 +82,9 @@ pub(crate) fn write_order<const W: usize, K: Sink>(
     ensures { WritesAnswer (IsReadOf graph.now (commands.Order level)) (K.written sink.old) (K.written sink.new)
         (K.faults sink.old) (K.faults sink.new) result }
 {
+    if graph.oversized(level) {
+        return write_refused(Refusal::Oversized, sink);
+    }
     let so_far = more_chunks(Ok(()), graph.order(level), sink);
     told(more(so_far, Line::End, sink), Outcome::Accepted)
 }
@@ -105,7 +108,7 @@ fn more_points<I: Iterator<Item = (u64, i128)>, K: Sink>(
     so_far
 }
 
-/// Writes the reply to `diagram`: the corners, and `end`.
+/// Writes the reply to `diagram`: the corners, and `end`; or that the level is oversized.
 pub(crate) fn write_diagram<const W: usize, K: Sink>(
     graph: &TxGraph<W>,
     level: Level,
@@ -114,6 +117,9 @@ pub(crate) fn write_diagram<const W: usize, K: Sink>(
     ensures { WritesAnswer (IsReadOf graph.now (commands.Diagram level)) (K.written sink.old) (K.written sink.new)
         (K.faults sink.old) (K.faults sink.new) result }
 {
+    if graph.oversized(level) {
+        return write_refused(Refusal::Oversized, sink);
+    }
     let so_far = more_points(Ok(()), graph.diagram(level), sink);
     told(more(so_far, Line::End, sink), Outcome::Accepted)
 }
@@ -128,8 +134,16 @@ pub(crate) fn write_part<K: Sink>(
 {
     match found {
         Ok(part) => told(write_line(Line::Chunk(part), sink), Outcome::Accepted),
-        Err(why) => told(write_refusal(sink, &why), Outcome::Refused(why.number())),
+        Err(why) => write_refused(why, sink),
     }
+}
+
+/// Writes why a reading is refused.
+fn write_refused<K: Sink>(why: Refusal, sink: &mut K) -> Result<Outcome, Failed>
+    ensures { WritesAnswer (λ answer. answer ≡ runs.Replies (Refused why)) (K.written sink.old) (K.written sink.new)
+        (K.faults sink.old) (K.faults sink.new) result }
+{
+    told(write_refusal(sink, &why), Outcome::Refused(why.number()))
 }
 
 /// Goes on with the lines of flows.
@@ -190,6 +204,7 @@ fn more_all_txs<const W: usize, K: Sink>(
     level: Level,
     sink: &mut K,
 ) -> Result<(), Failed>
+    requires { IsWithin graph.now.levels level }
     ensures { GoesOnLines so_far (K.written sink.old) (K.written sink.new) (K.faults sink.old) (K.faults sink.new) result
         (map (tx_line_of (level_at graph.now.levels level).graph) (order_of (level_at graph.now.levels level).parts)) }
 {
@@ -244,6 +259,7 @@ fn more_all_edges<const W: usize, K: Sink>(
     level: Level,
     sink: &mut K,
 ) -> Result<(), Failed>
+    requires { IsWithin graph.now.levels level }
     ensures { (edges : List (ℕ × ℕ))
         × ListsEach (level_at graph.now.levels level).graph (order_of (level_at graph.now.levels level).parts)
         (order_of (level_at graph.now.levels level).parts) edges
@@ -258,7 +274,7 @@ fn more_all_edges<const W: usize, K: Sink>(
 }
 
 /// Writes the reply to `proof`: the transactions in their order, the edges with nothing between by child, then by parent,
-/// the parts with their flows, and `end`.
+/// the parts with their flows, and `end`; or that the level is oversized.
 pub(crate) fn write_proof<const W: usize, K: Sink>(
     graph: &TxGraph<W>,
     level: Level,
@@ -267,6 +283,9 @@ pub(crate) fn write_proof<const W: usize, K: Sink>(
     ensures { WritesAnswer (IsReadOf graph.now (commands.Proof level)) (K.written sink.old) (K.written sink.new)
         (K.faults sink.old) (K.faults sink.new) result }
 {
+    if graph.oversized(level) {
+        return write_refused(Refusal::Oversized, sink);
+    }
     let so_far = more_all_txs(Ok(()), graph, level, sink);
     let so_far = more_all_edges(so_far, graph, level, sink);
     let so_far = more_parts(so_far, graph.order(level), sink);

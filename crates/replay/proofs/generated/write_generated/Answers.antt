@@ -1,4 +1,5 @@
 use Rattle.replay.specs.Generations.{summary_of}
+use Rattle.replay.proofs.PlayLemmas.{played_within}
 use Rattle.replay.proofs.SummaryLemmas.{summarizes}
 use Rattle.replay.proofs.generated.write_generated.Goals as goal
 
@@ -13,3 +14,6 @@ returns-in-Err-clause-generates g c =
     let run = summarizes c.args.seed c.args.count _ c.play-tally.result c.totals-totals.result c.play-tally.ensures c.totals-totals.ensures in
     let written = rw c.in-Err.is at c.write_summary.ensures.err in
     (summary_of c.play-tally.result c.totals-totals.result, run, written)
+
+pub totals-totals-requires : goal.totals-totals-requires
+totals-totals-requires g c = played_within c.args.seed c.args.count _ c.play-tally.result c.play-tally.ensures

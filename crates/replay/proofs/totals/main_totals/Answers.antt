@@ -9,7 +9,7 @@ returns g c =
 
 -- that the graph fits in memory is asked of the caller too
 pub diagram-requires : goal.diagram-requires
-diagram-requires g c = assumption
+diagram-requires g c = (assumption, c.requires)
 
 pub count-requires : goal.count-requires
 count-requires g c = assumption

@@ -1,6 +1,6 @@
 use Rattle.std.proofs.Common.{refl}
 use Rattle.cluster_store.specs.Lent.{lent}
-use Rattle.graph_model.specs.Replies.{OnePart, Refused}
+use Rattle.graph_model.specs.Replies.{OnePart}
 use Rattle.graph_model.specs.Runs as runs
 use Rattle.replay.proofs.WritingLemmas.{one_line}
 use Rattle.replay.proofs.writing.write_part.Goals as goal
@@ -14,9 +14,5 @@ returns-in-Ok g c = (
 )
 
 pub returns-in-Err : goal.returns-in-Err
-returns-in-Err g c = (
-  runs.Replies (Refused c.in-Err.why),
-  rw c.in-Err.is refl,
-  c.told-in-Err.ensures.writes _ _ _ _ _ (one_line _ _ _ _ _ _ c.write_refusal.ensures),
-  rw c.number.ensures at c.told-in-Err.ensures.told,
-)
+returns-in-Err g c =
+    let (answer, is, writes, outcome) = c.write_refused.ensures in (answer, rw c.in-Err.is is, writes, outcome)

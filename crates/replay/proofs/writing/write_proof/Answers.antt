@@ -1,13 +1,16 @@
-use Rattle.std.proofs.Common.{◌≡◌, ◌<◌, ℕ, List, map, flat_map, codes, true, Contains, ◌↔◌, Ok, ◌∷◌, [], ◌++◌, refl, subst}
+use Rattle.std.proofs.Common.{◌≡◌, ◌<◌, ℕ, List, map, flat_map, codes, true, Contains, ◌↔◌, Ok, ◌∷◌, [], ◌++◌, refl, subst, inl, sym}
 use Rattle.graphs.specs.Certificates.{Part}
 use Rattle.graphs.specs.Closures.{is_member}
 use Rattle.graph_model.specs.Answers.{order_of}
 use Rattle.graph_model.specs.States.{level_of}
+use Rattle.graph_model.specs.Commands as commands
 use Rattle.graph_model.specs.Replies.{Proves}
 use Rattle.graph_model.specs.Runs as runs
 use Rattle.graph_model.specs.Texts.{part_lines}
 use Rattle.levels.specs.Levels.{level_at}
 use Rattle.replay.specs.Writings.{ListsEach, tx_line_of, edges_lines}
+use Rattle.replay.specs.Answers.{IsReadOf}
+use Rattle.replay.proofs.RefusedLemmas.{reads_over, not_so}
 use Rattle.replay.proofs.Rooms.{graph_room, stored_fits}
 use Rattle.replay.proofs.TextLemmas.{text_with, text_is, text_lines_are}
 use Rattle.replay.proofs.WritingLemmas.{lines_on}
@@ -16,16 +19,16 @@ use Rattle.tx_graph.proofs.Standing.{graph_at}
 
 -- that the graph fits in memory is asked of the caller too
 pub order-requires : goal.order-requires
-order-requires g c = let fits : graph_room g.row.W < 9223372036854775808 = assumption in (fits, stored_fits g.row.W fits)
+order-requires g c = let fits : graph_room g.row.W < 9223372036854775808 = assumption in (fits, (stored_fits g.row.W fits, not_so _ _ c.oversized.ensures.exact c.if-oversized.false))
 
 pub more_parts-so_far-requires : goal.more_parts-so_far-requires
 more_parts-so_far-requires g c = stored_fits g.row.W assumption
 
 pub more_all_txs-so_far-requires : goal.more_all_txs-so_far-requires
-more_all_txs-so_far-requires g c = assumption
+more_all_txs-so_far-requires g c = (assumption, not_so _ _ c.oversized.ensures.exact c.if-oversized.false)
 
 pub more_all_edges-so_far-requires : goal.more_all_edges-so_far-requires
-more_all_edges-so_far-requires g c = assumption
+more_all_edges-so_far-requires g c = (assumption, not_so _ _ c.oversized.ensures.exact c.if-oversized.false)
 
 pub returns : goal.returns
 returns g c =
@@ -54,4 +57,15 @@ returns g c =
       ),
       c.told.ensures.writes _ _ _ _ _ written,
       c.told.ensures.told,
+    )
+
+pub returns-then-oversized : goal.returns-then-oversized
+returns-then-oversized g c =
+    let (answer, is, writes, outcome) = c.write_refused.ensures in (
+      answer,
+      subst (IsReadOf c.args.graph.now (commands.Proof c.args.level)) (sym is)
+          (reads_over c.args.graph.now (commands.Proof c.args.level) c.args.level (λ state over. inl (over, refl))
+          (λ state stands. (c.oversized.ensures.state state stands).0 c.if-oversized.true)),
+      writes,
+      outcome,
     )
