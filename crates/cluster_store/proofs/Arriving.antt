@@ -1,17 +1,17 @@
 -- Clusters come into the top level under numbers that were free.
-use Rattle.std.proofs.Common.{◌≡◌, ℕ, suc, ◌<◌, Bool, true, false, List, [], ◌∷◌, map, length, Contains, Some, None, inl, inr, sym, ap, ◌∙◌, arith}
+use Rattle.std.proofs.Common.{◌≡◌, ℕ, ◌<◌, Bool, true, false, List, [], map, length, Contains, Some, None, inl, inr, sym, ap, ◌∙◌, arith}
 use Rattle.std.specs.Prelude.{slice_get, slice_index, option_map}
 use Rattle.std.specs.FinMap as finmap
 use Rattle.std.proofs.lemmas.List.{get_or_default, length-map}
 use Rattle.std.proofs.lemmas.Option.{same_Some, slice_get-map, slice_get_cases}
-use Rattle.lists.proofs.Entries.{Contains-cases, none_in_empty}
+use Rattle.lists.proofs.Entries.{none_in_empty}
 use Rattle.lists.proofs.Told.{told_number}
 use Rattle.graphs.specs.declared.names.Level.TheVariants.{Main, Top}
 use Rattle.chunk_index.specs.declared.entry.Tag.{Tag}
 use Rattle.chunk_index.specs.declared.entry.Tag.TheVariants.{Both}
 use Rattle.cluster.specs.Clusters.{Cluster}
 use Rattle.cluster_store.specs.Stores.{Stored}
-use Rattle.cluster_store.specs.Kept.{Slots, at, shelved}
+use Rattle.cluster_store.specs.Kept.{Slots, shelved}
 use Rattle.cluster_store.specs.Slots.{AddsTo}
 use Rattle.cluster_store.specs.Tops.{AllHave, Exchanged, seen_in, seen_at, top_tag}
 use Rattle.cluster_store.proofs.Seen.{both_of_new, free_unseen, in_new_tag, main_of_new, same_seen, seen_stored}

@@ -17,7 +17,7 @@ use Rattle.chunk_index.specs.Keys.{IsInOrder}
 use Rattle.chunk_index.specs.Items.{Items, item_key, is_in, AreInOrder, entries_by}
 use Rattle.cluster_store.specs.Held.{cluster_in, held_at, held_at_entry, held_in}
 use Rattle.cluster_store.specs.Keys.{key_part}
-use Rattle.cluster_store.specs.Stores.{Stored, Shown, no_part, parts_by, parts_in, part_in, key_at, key_in, passes, places_by, shown_at, shown_by, IsOrdered}
+use Rattle.cluster_store.specs.Stores.{Stored, no_part, parts_by, parts_in, part_in, key_at, key_in, passes, places_by, shown_at, shown_by, IsOrdered}
 use Rattle.cluster_store.specs.Kept.{Slots, at, shelved, place_of, same_key, found, is_rate, has_rate, tag_for, IsShown}
 use Rattle.cluster_store.specs.Walks.{shown_of, HasParts}
 use Rattle.cluster_store.proofs.Founds.{same_is, same_self}

@@ -1,5 +1,5 @@
 -- What changes leave of the slots.
-use Rattle.std.specs.Prelude.{◌≡◌, ◌≢◌, ℕ, ◌<◌, List, [], ◌∷◌, ◌++◌, map, length, nat_eq, Contains, Option, None, Some, IsSome, slice_get, slice_index}
+use Rattle.std.specs.Prelude.{◌≡◌, ◌≢◌, ℕ, List, [], ◌∷◌, ◌++◌, map, length, nat_eq, Contains, Option, None, Some, IsSome, slice_get, slice_index}
 use Rattle.std.specs.List.{filter}
 use Rattle.lists.specs.Distinct.{AreDistinct}
 use Rattle.graphs.specs.Certificates.{Part}

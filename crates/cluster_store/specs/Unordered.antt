@@ -1,11 +1,11 @@
 -- Clusters without an order: those over the limits.
-use Rattle.std.specs.Prelude.{◌≡◌, ℕ, ◌≤◌, true, nat_eq, List, [], ◌∷◌, length, Contains, Option, None, Some}
+use Rattle.std.specs.Prelude.{◌≡◌, ℕ, ◌≤◌, true, nat_eq, List, [], ◌∷◌, Contains, Option, None, Some}
 use Rattle.indexmap.specs.IndexSet.{IndexSet, contains, spare as room_of}
 use Rattle.graphs.specs.declared.names.Level.{Level}
 use Rattle.graphs.specs.Certificates.{Part}
 use Rattle.chunk_index.specs.Items.{Items}
 use Rattle.cluster.specs.Clusters.{Cluster}
-use Rattle.cluster_store.specs.Stores.{Stored, Numbered, Exchange}
+use Rattle.cluster_store.specs.Stores.{Stored, Numbered}
 use Rattle.cluster_store.specs.Changes.{settled}
 use Rattle.cluster_store.specs.Kept.{Slots, at, IsKept}
 use Rattle.cluster_store.specs.Tops.{seen_at, seen_in}

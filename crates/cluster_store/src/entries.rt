@@ -25,6 +25,7 @@ pub fn entry_of<const W: usize>(number: usize, cluster: &Record<W>, at: usize) -
 }
 
 // Whether the other cluster, if there is one, has a part of that rate at that position.
+#[inline]
 fn stays<const W: usize>(other: Option<&Record<W>>, at: usize, rate: FeeRate) -> bool
     ensures { result ≡ is_rate rate (slice_get (parts_of (option_copied other.entry)) at) }
 {

@@ -6,6 +6,7 @@
 //! that comes out again; only then go clusters and entries out, which can't fail.
 #![tactic(auto)]
 
+mod ancestry;
 mod clusters;
 mod entries;
 mod held;

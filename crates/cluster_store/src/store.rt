@@ -1,5 +1,6 @@
 ghost use Rattle.std.specs.Prelude.{◌≡◌, ◌≢◌, ◌↔◌, ◌≤◌, ◌*◌, ◌++◌, ℕ, false, true, None, Some, [], ◌∷◌, map, Contains, IsSome, IsTrue, IfOk, IfSome, OnOk, OnErr, MatchOption, option_to_list};
 ghost use Rattle.std.specs.FinMap as finmap;
+ghost use Rattle.graphs.specs.Closures.{is_ancestor};
 ghost use Rattle.graphs.specs.Merges.{Precedes};
 ghost use Rattle.record.specs.Records.{IsRecord};
 ghost use Rattle.cluster_store.specs.Stores.{Stored as Kept, IsStore, AreWhole, IsLeast, IsOrdered, shown_in, shown_only};
@@ -10,6 +11,7 @@ ghost use Rattle.cluster_store.specs.Changes.{AreHeld, EndsAt, ExchangesEach, lo
 ghost use Rattle.cluster_store.specs.Tops.{MayLeave, TopChanges};
 ghost use Rattle.cluster_store.specs.Unordered.{LacksOrder};
 
+use crate::ancestry::{lacks, reaches};
 use crate::clusters::{cluster_of, entry_at, exchange_all, tag_of};
 use crate::held::HeldWalk;
 use crate::least::{lowest_exchanged, lowest_of_all, lowest_of_last};
@@ -21,10 +23,10 @@ use crate::tail::first_of_tail;
 use crate::unordered::{lacks_order, list_exchanged, list_made, make_room};
 use crate::walk::PartWalk;
 use chunk_index::{ChunkIndex, Tag};
-use graphs::Level;
+use graphs::{Level, TxId};
 use indexmap::IndexSet;
 use outside::NoMemory;
-use record::Record;
+use record::{Listing, Record};
 use slab::Slab;
 use std::alloc::Global;
 use std::marker::Model;
@@ -105,6 +107,26 @@ impl<const W: usize> ClusterStore<W> {
         ensures { IsTrue result ↔ LacksOrder level self.now.clusters }
     {
         lacks_order(&self.slots, &self.over, level)
+    }
+
+    /// Whether a name of a cluster is an ancestor of another. The cluster of the number has both. Takes no memory.
+    pub fn reaches(&mut self, number: usize, a: TxId, b: TxId) -> bool
+        requires { (s : Kept) × (finmap.get self.old.clusters number ≡ Some s) × Contains s.cluster.names a × Contains s.cluster.names b }
+        ensures ancestor { (s : Kept) → finmap.get self.old.clusters number ≡ Some s → result ≡ is_ancestor s.cluster.graph a b }
+        ensures same { self.new ≡ self.old }
+    {
+        reaches(&mut self.slots, number, a, b)
+    }
+
+    /// Whether a name of a cluster has an ancestor that isn't listed. The cluster of the number has the name. Takes no memory.
+    pub fn lacks<T: Listing>(&mut self, number: usize, id: TxId, listing: &T) -> bool
+        requires here { (s : Kept) × (finmap.get self.old.clusters number ≡ Some s) × Contains s.cluster.names id }
+        requires known { (s : Kept) (a : ℕ) → finmap.get self.old.clusters number ≡ Some s → Contains s.cluster.names a → T.known listing.now a }
+        ensures lacks { (s : Kept) → finmap.get self.old.clusters number ≡ Some s
+            → IsTrue result ↔ ((a : ℕ) × (is_ancestor s.cluster.graph a id ≡ true) × (T.listed listing.now a → ⊥)) }
+        ensures same { self.new ≡ self.old }
+    {
+        lacks(&mut self.slots, number, id, listing)
     }
 
     /// The parts of a level, by falling rate, among equal rates by the numbers of the clusters, and of a cluster in their

@@ -1,9 +1,11 @@
-ghost use Rattle.std.specs.Prelude.{◌≡◌};
+ghost use Rattle.std.specs.Prelude.{◌≡◌, ◌↔◌, ℕ, true, Contains, IsTrue};
+ghost use Rattle.graphs.specs.Closures.{is_ancestor};
 
 use crate::walk::Parts;
 use chunk_index::Tag;
 use cluster::PartRef;
-use record::Record;
+use graphs::TxId;
+use record::{Listing, Record};
 use std::marker::Model;
 use std::mem;
 
@@ -59,6 +61,25 @@ impl<const W: usize> Stored<W> {
         ensures old { result ≡ self.old.cluster }
     {
         mem::replace(&mut self.cluster, cluster)
+    }
+
+    /// Whether a name of the cluster is an ancestor of another.
+    pub(crate) fn reaches(&mut self, a: TxId, b: TxId) -> bool
+        requires { Contains self.old.cluster.names a × Contains self.old.cluster.names b }
+        ensures ancestor { result ≡ is_ancestor self.old.cluster.graph a b }
+        ensures same { self.new ≡ self.old }
+    {
+        self.cluster.reaches(a, b)
+    }
+
+    /// Whether a name of the cluster has an ancestor that isn't listed.
+    pub(crate) fn lacks<T: Listing>(&mut self, id: TxId, listing: &T) -> bool
+        requires here { Contains self.old.cluster.names id }
+        requires known { (a : ℕ) → Contains self.old.cluster.names a → T.known listing.now a }
+        ensures lacks { IsTrue result ↔ ((a : ℕ) × (is_ancestor self.old.cluster.graph a id ≡ true) × (T.listed listing.now a → ⊥)) }
+        ensures same { self.new ≡ self.old }
+    {
+        self.cluster.lacks(id, listing)
     }
 }
 

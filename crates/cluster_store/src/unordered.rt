@@ -112,6 +112,10 @@ pub fn list_made<const W: usize>(
         → Contains (made.now.rest.items ++ option_to_list made.now.last) n ⊎ (contains nat_eq over.old n ≡ true) }
     ensures { ListsUnordered over.new slots.now.slots }
 {
+    // Where there is no room for any number, none is listed, and none that came in has to be.
+    if over.capacity() == 0 {
+        return;
+    }
     unlist_all(slots, over, outs);
     list_all(slots, over, made.rest.as_slice());
     if let Some(number) = made.last {

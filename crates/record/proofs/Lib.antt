@@ -22,3 +22,4 @@ pub mod Fewer
 pub mod Following
 pub mod Sized
 pub mod Lost
+pub mod Listed

@@ -13,9 +13,11 @@
 mod joining;
 mod kept;
 mod leaving;
+mod listing;
 mod over;
 mod parts;
 mod record;
 mod solving;
 
+pub use listing::Listing;
 pub use record::Record;

@@ -9,6 +9,7 @@ use fee_rate::FeeRate;
 
 impl<const W: usize> Record<W> {
     /// How many parts its order has, and none where it has no order.
+    #[inline]
     pub fn part_count(&self) -> usize
         ensures { result ≡ length self.now.parts }
     {
@@ -34,6 +35,7 @@ impl<const W: usize> Record<W> {
     }
 
     /// The fee in satoshis and the size in virtual bytes of the part at a position of its order.
+    #[inline]
     pub fn part_rate(&self, at: usize) -> FeeRate
         requires { at < length self.now.parts }
         ensures { (part : Part) → slice_get self.now.parts at ≡ Some part → sum_from result ≡ part.rate }

@@ -1,4 +1,4 @@
-ghost use Rattle.std.specs.Prelude.{◌≡◌, ◌≢◌, ℕ, ◌+◌, ◌*◌, ◌<◌, ◌≤◌, ◌++◌, [], true, false, List, length, map, slice_index, sum_by, All, Contains, IfOk, MatchOption};
+ghost use Rattle.std.specs.Prelude.{◌≡◌, ◌≢◌, ◌↔◌, ℕ, ◌+◌, ◌*◌, ◌<◌, ◌≤◌, ◌++◌, [], true, false, List, length, map, slice_index, sum_by, All, Contains, IfOk, IsTrue, MatchOption};
 ghost use Rattle.fee_rate.specs.Limits.{IsFee, IsRate};
 ghost use Rattle.fee_rate.specs.declared.limits.TheConstants.{MAX_SIZE, MAX_TOTAL};
 ghost use Rattle.graphs.specs.Closures.{is_ancestor, rate_of, AddsPair, SetsFee};
@@ -18,6 +18,7 @@ ghost use Rattle.graph_model.specs.declared.names.Limits as graph_limits;
 use crate::joining::{are_over, joined_over};
 use crate::kept::{Kept, Unordered};
 use crate::leaving::{all_within, split_up};
+use crate::listing::{Listing, lacks_over, lacks_within};
 use crate::solving::{ordered, place_of};
 use component::{Component, Work};
 use fee_rate::FeeRate;
@@ -210,6 +211,19 @@ impl<const W: usize> Record<W> {
         match &mut self.kept {
             Kept::Within(component) => component.reaches(a, b),
             Kept::Over(over) => over.links.reaches(a, b),
+        }
+    }
+
+    /// Whether a name has an ancestor that isn't listed. The name is one of this record. Takes no memory.
+    pub fn lacks<T: Listing>(&mut self, id: TxId, listing: &T) -> bool
+        requires here { Contains self.old.names id }
+        requires known { (a : ℕ) → Contains self.old.names a → T.known listing.now a }
+        ensures lacks { IsTrue result ↔ ((a : ℕ) × (is_ancestor self.old.graph a id ≡ true) × (T.listed listing.now a → ⊥)) }
+        ensures same { self.new ≡ self.old }
+    {
+        match &mut self.kept {
+            Kept::Within(component) => lacks_within(component, id, listing),
+            Kept::Over(over) => lacks_over(&mut over.links, id, listing),
         }
     }
 

@@ -5,7 +5,7 @@ ghost use Rattle.record_tests.specs.declared.record_tests.TheConstants.{LIMITS};
 use component::Work;
 use fee_rate::FeeRate;
 use graph_model::{Limits, TxId};
-use record::Record;
+use record::{Listing, Record};
 use std::alloc::Global;
 use std::marker::Brand;
 use std::process::Abort;
@@ -19,6 +19,7 @@ const LIMITS: Limits = Limits {
     count: 2,
     size: 1_000,
     total: 10,
+    defer: true,
 };
 
 // Whether a name is in a list.
@@ -66,6 +67,46 @@ fn leads(rt: &impl Abort, chain: &mut Record<2>, a: TxId, b: TxId) -> bool {
     assert!(rt; stands_in(chain.names(), a));
     assert!(rt; stands_in(chain.names(), b));
     chain.reaches(a, b)
+}
+
+// Names that are listed.
+#[derive(Clone, Copy)]
+struct Names<'a> {
+    ids: &'a [TxId],
+}
+
+impl<'a> Listing for Names<'a> {
+    ghost use Rattle.std.specs.Prelude.{◌≡◌, Contains};
+
+    ghost listed = { λ names id. Contains names.ids.now id };
+
+    ghost known = { λ names id. id ≡ id };
+
+    fn lists(&self, id: TxId) -> bool {
+        stands_in(self.ids, id)
+    }
+}
+
+// Whether a name of a record has an ancestor that isn't one of these.
+fn lacks(rt: &impl Abort, chain: &mut Record<2>, id: TxId, ids: &[TxId]) -> bool {
+    assert!(rt; stands_in(chain.names(), id));
+    chain.lacks(id, &Names { ids })
+}
+
+// Rows: a name of a chain whose first names are 1 and 2, names that are listed, and whether it has an ancestor that isn't.
+static LISTINGS: [(TxId, &[TxId], bool); 6] = [
+    (1, &[], true),
+    (1, &[2], true),
+    (1, &[1], false),
+    (2, &[2], true),
+    (2, &[1], true),
+    (2, &[3, 2, 1], false),
+];
+
+fn each_listing(rt: &impl Abort, chain: &mut Record<2>) {
+    for (id, ids, answer) in &LISTINGS {
+        assert!(rt; lacks(rt, chain, *id, ids) == *answer);
+    }
 }
 
 // The record in which one of its names has a fee of 70.
@@ -165,6 +206,7 @@ fn is_unordered(rt: &impl Abort, chain: &mut Record<2>) {
     assert!(rt; chain.size() == 15);
     assert!(rt; leads(rt, chain, 1, 3));
     assert!(rt; !leads(rt, chain, 3, 1));
+    each_listing(rt, chain);
 }
 
 // Asserts that the name 2 of a record without an order has a fee of 70.
@@ -209,9 +251,10 @@ fn within_the_limits<L: Ledger>(
     work: &mut Work<2>,
     steps: &mut Steps<L>,
 ) -> Result<(), Fail> {
-    let two = chain_of_two(rt, alloc, work, steps)?;
+    let mut two = chain_of_two(rt, alloc, work, steps)?;
     assert!(rt; two.component().is_some());
     let told = leaves(rt, alloc, work, steps, &two, 1, &[2], true);
+    each_listing(rt, &mut two);
     drop(two);
     told
 }

@@ -1,4 +1,6 @@
-ghost use Rattle.std.specs.Prelude.{◌≡◌, ◌<◌, [], ◌∷◌, IfOk};
+ghost use Rattle.std.specs.Prelude.{◌≡◌, ◌↔◌, ◌<◌, [], ◌∷◌, Some, Contains, IsTrue, IfOk};
+ghost use Rattle.std.specs.FinMap as finmap;
+ghost use Rattle.cluster_store.specs.Stores.{Stored as Kept};
 ghost use Rattle.cluster_store.specs.Tops.{StandsInTop};
 ghost use Rattle.record.specs.Records.{IsFitted};
 ghost use Rattle.record_tests.specs.declared.store_tests.TheConstants.{ONE_NAME};
@@ -22,6 +24,7 @@ const ONE_NAME: Limits = Limits {
     count: 1,
     size: 1_000,
     total: 10,
+    defer: true,
 };
 
 // ---- records, all made before the store is
@@ -135,6 +138,8 @@ enum Act {
     Exchange(usize),
     // A staging is closed, and that level stays.
     Settle(Level),
+    // Of that one the first name is an ancestor of the second, and not the other way round.
+    Reach(usize, TxId, TxId),
 }
 
 fn next(rt: &impl Abort, table: &mut Table) -> Record<1> {
@@ -209,6 +214,39 @@ fn exchange(rt: &impl Abort, table: &mut Table, at: usize) -> Result<(), Fail> {
     Ok(())
 }
 
+// Whether a name is in a list.
+fn is_among(names: &[TxId], id: TxId) -> bool
+    ensures { IsTrue result ↔ Contains names.now id }
+{
+    names.contains(&id)
+}
+
+// Asserts that the record of a number has two names.
+fn has_both(rt: &impl Abort, store: &ClusterStore<1>, number: usize, a: TxId, b: TxId)
+    ensures { (s : Kept) × (finmap.get store.now.clusters number ≡ Some s) × Contains s.cluster.names a × Contains s.cluster.names b }
+{
+    match store.get(number) {
+        Some(record) => {
+            assert!(rt; is_among(record.names(), a));
+            assert!(rt; is_among(record.names(), b));
+        }
+        None => panic!(rt; "no record"),
+    }
+}
+
+// Whether one name of a record is an ancestor of another.
+fn leads(rt: &impl Abort, store: &mut ClusterStore<1>, number: usize, a: TxId, b: TxId) -> bool {
+    has_both(rt, store, number, a, b);
+    store.reaches(number, a, b)
+}
+
+// Asserts so of these names, and not the other way round.
+fn reach(rt: &impl Abort, table: &mut Table, at: usize, a: TxId, b: TxId) {
+    let number = number(rt, table, at);
+    assert!(rt; leads(rt, &mut table.store, number, a, b));
+    assert!(rt; !leads(rt, &mut table.store, number, b, a));
+}
+
 fn obey(rt: &impl Abort, table: &mut Table, act: Act) -> Result<(), Fail> {
     match act {
         Act::Come(rest) => come(rt, table, rest),
@@ -216,6 +254,10 @@ fn obey(rt: &impl Abort, table: &mut Table, act: Act) -> Result<(), Fail> {
         Act::Exchange(at) => exchange(rt, table, at),
         Act::Settle(stays) => {
             table.store.settle(stays);
+            Ok(())
+        }
+        Act::Reach(at, a, b) => {
+            reach(rt, table, at, a, b);
             Ok(())
         }
     }
@@ -252,7 +294,7 @@ fn tells(rt: &impl Abort, store: &ClusterStore<1>, level: Level, lacks: bool, na
 }
 
 // Rows, and after each whether main and the top level lack an order, and the names that their walks give.
-static ROWS: [(Act, [bool; 2], [&[TxId]; 2]); 12] = [
+static ROWS: [(Act, [bool; 2], [&[TxId]; 2]); 13] = [
     (Act::Come(0), [false, false], [&[], &[1]]),
     (Act::Settle(Level::Top), [false, false], [&[1], &[1]]),
     // one over the limits comes into staging, which is dropped
@@ -268,6 +310,7 @@ static ROWS: [(Act, [bool; 2], [&[TxId]; 2]); 12] = [
     (Act::Settle(Level::Top), [false, false], [&[1], &[1]]),
     // one takes the place of the other in both levels, and gives it back
     (Act::Exchange(0), [true, true], [&[], &[]]),
+    (Act::Reach(0, 7, 8), [true, true], [&[], &[]]),
     (Act::Exchange(0), [false, false], [&[9], &[9]]),
 ];
 

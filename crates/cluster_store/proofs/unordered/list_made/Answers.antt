@@ -8,6 +8,14 @@ use Rattle.cluster_store.specs.Kept.{at}
 use Rattle.cluster_store.specs.Unordered.{IsUnordered}
 use Rattle.cluster_store.proofs.unordered.list_made.Goals as goal
 
+pub returns-then-capacity-eq0 : goal.returns-then-capacity-eq0
+returns-then-capacity-eq0 g c = λ n unordered. elim (c.requires.others n unordered) [
+  | inl made ↦
+      let some : length c.args.made.now.rest.items + 1 ≤ room_of c.args.over.now = c.requires.room n made unordered in
+      absurd (omega (arith, some, c.capacity.ensures, c.if-capacity-eq0.true))
+  | inr was ↦ was
+]
+
 pub list_all-requires : goal.list_all-requires
 list_all-requires g c = (
   search,

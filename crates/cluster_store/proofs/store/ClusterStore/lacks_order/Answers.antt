@@ -1,9 +1,9 @@
 -- What is shelved under a number is what its slot has.
-use Rattle.std.proofs.Common.{◌≡◌, ℕ, sym, ap, ◌∙◌, subst}
+use Rattle.std.proofs.Common.{◌≡◌, ℕ, sym, ap, subst}
 use Rattle.std.specs.FinMap as finmap
-use Rattle.cluster_store.specs.Stores.{Store, Numbered}
+use Rattle.cluster_store.specs.Stores.{Store}
 use Rattle.cluster_store.specs.Kept.{at}
-use Rattle.cluster_store.specs.Unordered.{LacksOrder, LacksOrderIn}
+use Rattle.cluster_store.specs.Unordered.{LacksOrderIn}
 use Rattle.cluster_store.proofs.Kept.{shelved_at}
 use Rattle.cluster_store.proofs.Sizes.{stored_fits}
 use Rattle.cluster_store.proofs.store.ClusterStore.lacks_order.Goals as goal
