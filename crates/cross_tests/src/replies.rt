@@ -177,7 +177,7 @@ fn reply<K: Sink>(
 ) -> Result<(), Failed> {
     match line {
         Line::Quiet => Ok(()),
-        Line::Limits(limits, false) => tell(sink, lists.set_limits(limits)),
+        Line::Limits(limits) if !limits.defer => tell(sink, lists.set_limits(limits)),
         Line::Add(id, fee, size) => tell(sink, lists.add(rt, id, fee, size)),
         Line::Dep(parent, child) => tell(sink, lists.level(Level::Top).dep(parent, child)),
         Line::Fee(id, fee) => tell(sink, lists.fee(id, fee)),

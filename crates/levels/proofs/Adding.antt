@@ -68,7 +68,12 @@ module _ (w mains tops issued : ℕ) (old : Shelf) (rings : Ringed)
     levels_added = (
       levels_of new issued,
       subst (λ (l : Levels). ChangesTop (λ g h. AddsName g h id rate) l (levels_of new issued)) view turns,
-      λ i. record { main = one_of Main new; staging = option_map (λ _. one_of Top new) new.staging; issued = (view i).issued + 1 },
+      λ i. record {
+        limits = new.limits;
+        main = one_of Main new;
+        staging = option_map (λ _. one_of Top new) new.staging;
+        issued = (view i).issued + 1;
+      },
     )
 
     pub name_stays : AllStay now (levels_of new (issued + 1))

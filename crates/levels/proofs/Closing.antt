@@ -1,6 +1,6 @@
 -- What the graph of a level is where one cluster came in, alone or in the place of another of the same names.
-use Rattle.std.proofs.Common.{◌≡◌, ◌≢◌, ℕ, ℤ, true, false, ◌&&◌, ◌||◌, nat_eq, List, [], ◌∷◌, Contains, Option, Some, None, is_some, inl, inr, refl, sym, ap, ap₂, ◌∙◌, subst, eq-eqb, ne_eqb, true≢false}
-use Rattle.std.proofs.lemmas.Bool.{cases_eq, false_from_ne_true, and_right, or_left}
+use Rattle.std.proofs.Common.{◌≡◌, ◌≢◌, ℕ, ℤ, true, false, ◌&&◌, ◌||◌, nat_eq, List, [], ◌∷◌, Contains, Option, None, is_some, inl, inr, refl, sym, ap, ap₂, ◌∙◌, subst, eq-eqb, ne_eqb}
+use Rattle.std.proofs.lemmas.Bool.{cases_eq, and_right, or_left}
 use Rattle.std.specs.FinMap as finmap
 use Rattle.std.specs.FinSet as set
 use Rattle.std.specs.Ordering.{nat_cmp}
@@ -8,7 +8,7 @@ use Rattle.lists.proofs.Cases.{none_of, or_false}
 use Rattle.lists.proofs.Entries.{Contains-head, Contains-cases, none_in_empty}
 use Rattle.lists.proofs.Told.{told_number}
 use Rattle.fee_rate.specs.declared.rates.FeeRate.{FeeRate}
-use Rattle.graphs.specs.Closures.{Closure, Node, is_member, is_ancestor, ancestors_of, ancestors_in, rate_of, rate_in, AddsPair, SetsFee}
+use Rattle.graphs.specs.Closures.{Closure, Node, is_member, is_ancestor, ancestors_of, ancestors_in, rate_of, rate_in, SetsFee}
 use Rattle.cluster.specs.Clusters.{Cluster}
 use Rattle.cluster.specs.Changes.{IsSingle}
 use Rattle.levels.specs.Changes.{IsNamed, IsRebuilt}

@@ -5,11 +5,11 @@ use Rattle.std.proofs.lemmas.Option.{same_Some}
 use Rattle.lists.proofs.Entries.{Contains-head, Contains-map}
 use Rattle.fee_rate.specs.declared.rates.FeeRate.{FeeRate}
 use Rattle.graphs.specs.declared.names.Level.{Level}
-use Rattle.graphs.specs.Certificates.{Part}
 use Rattle.graphs.specs.Closures.{Closure, is_member, rate_of}
 use Rattle.cluster.specs.Clusters.{Cluster}
 use Rattle.cluster_store.specs.Stores.{Shown, IsLeast, shown_in}
 use Rattle.levels.specs.Shelves.{Shelf, IsInOrder, one_of, seen_at, view_of}
+use Rattle.levels.specs.Oversize.{IsOversized}
 use Rattle.levels.specs.Views.{IsIndexed, AreOfOneCluster, HaveClusterNumbers}
 use Rattle.levels.proofs.Finds.{indexed_at}
 use Rattle.levels.proofs.Found.{cluster_of}
@@ -44,30 +44,31 @@ module _ (w : ℕ) (shelf : Shelf) (order : IsInOrder w shelf) (level : Level) w
         names = in_cluster (64 * w) level shelf.store order.store at.place s.part at.stands;
       }
 
-  its_name : (s : Shown) → Contains (shown_in level shelf.store) s → (id : ℕ) × Contains s.part.ids id
-  its_name s here = some_name s.part.ids (part_filled w shelf order level s.part (Contains-map (λ (t : Shown). t.part) (shown_in level shelf.store) s here))
+  module _ (in_limits : IsOversized shelf.limits known → ⊥) where
+    its_name : (s : Shown) → Contains (shown_in level shelf.store) s → (id : ℕ) × Contains s.part.ids id
+    its_name s here = some_name s.part.ids (part_filled w shelf order level in_limits s.part (Contains-map (λ (t : Shown). t.part) (shown_in level shelf.store) s here))
 
-  of_one : (s t : Shown) → Contains (shown_in level shelf.store) s → Contains (shown_in level shelf.store) t → s.number ≡ t.number
-      → AreOfOneCluster known s.part t.part
-  of_one s t first second same =
-      let x = its s first in
-      let y = its t second in
-      let a = its_name s first in
-      let b = its_name t second in
-      let of = cluster_of (64 * w) (view_of level shelf) indexed s.number x.cluster x.there a.0 (x.names a.0 a.1) in
-      let is : Some x.cluster ≡ Some y.cluster = sym x.there ∙ ap (seen_at level shelf.store.clusters) same ∙ y.there in
-      (a.0, b.0, a.1, b.1, of.linked b.0 (subst (λ (c : Cluster). Contains c.names b.0) (sym (same_Some x.cluster y.cluster is)) (y.names b.0 b.1)))
+    of_one : (s t : Shown) → Contains (shown_in level shelf.store) s → Contains (shown_in level shelf.store) t → s.number ≡ t.number
+        → AreOfOneCluster known s.part t.part
+    of_one s t first second same =
+        let x = its s first in
+        let y = its t second in
+        let a = its_name s first in
+        let b = its_name t second in
+        let of = cluster_of (64 * w) (view_of level shelf) indexed s.number x.cluster x.there a.0 (x.names a.0 a.1) in
+        let is : Some x.cluster ≡ Some y.cluster = sym x.there ∙ ap (seen_at level shelf.store.clusters) same ∙ y.there in
+        (a.0, b.0, a.1, b.1, of.linked b.0 (subst (λ (c : Cluster). Contains c.names b.0) (sym (same_Some x.cluster y.cluster is)) (y.names b.0 b.1)))
 
-  of_number : (s t : Shown) → Contains (shown_in level shelf.store) s → Contains (shown_in level shelf.store) t → AreOfOneCluster known s.part t.part
-      → s.number ≡ t.number
-  of_number s t first second (a, b, here, there, linked) =
-      let x = its s first in
-      let y = its t second in
-      let of = cluster_of (64 * w) (view_of level shelf) indexed s.number x.cluster x.there a (x.names a here) in
-      one_number (64 * w) (view_of level shelf) indexed s.number t.number b x.cluster y.cluster x.there y.there (of.alone b linked) (y.names b there)
+    of_number : (s t : Shown) → Contains (shown_in level shelf.store) s → Contains (shown_in level shelf.store) t → AreOfOneCluster known s.part t.part
+        → s.number ≡ t.number
+    of_number s t first second (a, b, here, there, linked) =
+        let x = its s first in
+        let y = its t second in
+        let of = cluster_of (64 * w) (view_of level shelf) indexed s.number x.cluster x.there a (x.names a here) in
+        one_number (64 * w) (view_of level shelf) indexed s.number t.number b x.cluster y.cluster x.there y.there (of.alone b linked) (y.names b there)
 
-  pub cluster_numbers : HaveClusterNumbers known (shown_in level shelf.store)
-  cluster_numbers s t first second = (of_one s t first second, of_number s t first second)
+    pub cluster_numbers : HaveClusterNumbers known (shown_in level shelf.store)
+    cluster_numbers s t first second = (of_one s t first second, of_number s t first second)
 
   pub sizes_bounded : (least : ℕ) → IsLeast shelf.store.clusters least → (id : ℕ) → is_member known id ≡ true → least ≤ (rate_of known id).size
   sizes_bounded least is id live =

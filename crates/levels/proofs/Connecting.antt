@@ -1,5 +1,5 @@
 -- A name of the top level became a parent of another: what the levels see of it, and what is kept of them.
-use Rattle.std.proofs.Common.{IfErr, ◌≡◌, ◌≢◌, ◌≤◌, ℕ, ◌*◌, ◌&&◌, ◌||◌, Bool, true, false, cond, Option, Some, None, is_some, inl, inr, refl, sym, ap, arith, ◌∙◌, subst, subst₂, ◌⊎◌, Result, Ok, Err, OnOk, OnErr, MatchResult}
+use Rattle.std.proofs.Common.{IfErr, ◌≡◌, ◌≢◌, ℕ, ◌*◌, ◌&&◌, ◌||◌, Bool, true, false, cond, Option, Some, None, is_some, inl, inr, refl, sym, ap, arith, ◌∙◌, subst, subst₂, ◌⊎◌, Result, Ok, Err, OnOk, OnErr, MatchResult}
 use Rattle.std.specs.Result.{IsErrAnd}
 use Rattle.std.proofs.lemmas.Bool.{or_cases, or_left, and_parts}
 use Rattle.std.specs.FinMap as finmap
@@ -67,7 +67,7 @@ there_top w issued shelf order p q there =
 
 -- ---- names of two clusters
 
-module _ (w : ℕ) (shelf : Shelf) (p q first second : ℕ) (link : IsLink w shelf p q (Between first second)) where
+module _ (w : ℕ) (shelf : Shelf) (p q first second : ℕ) (link : IsLink shelf p q (Between first second)) where
   between_apart : finmap.get (numbers_at Top shelf) p ≢ finmap.get (numbers_at Top shelf) q
   between_apart same = elim link.0 [
     | inl is ↦ link.1 (same_Some first second (sym is.0 ∙ same ∙ is.1))
@@ -104,6 +104,15 @@ pub stays_on : {T E : Type 0} (result : Result T E) (w issued : ℕ) (old new : 
     → OnErr result ((new ≡ old) × Same) → AllStay (levels_of old issued) (levels_of new issued)
 stays_on (Ok x) w issued old new before after parent child connects Same err = connected_stays w issued old new before after parent child connects
 stays_on (Err e) w issued old new before after parent child connects Same err = same_shelf_stays w old new before after issued issued err.0
+
+-- the same of shelves that are as they were
+pub connects_from : {T E : Type 0} (result : Result T E) (w parent child : ℕ) (mid old new : Shelf) → mid ≡ old
+    → OnOk result (Connects w parent child mid new) → OnOk result (Connects w parent child old new)
+connects_from result w parent child mid old new same = subst (λ (s : Shelf). OnOk result (Connects w parent child s new)) same
+
+pub fails_from : {T E : Type 0} (result : Result T E) (mid old new : Shelf) (Same : Type 0) → mid ≡ old
+    → OnErr result ((new ≡ mid) × Same) → OnErr result ((new ≡ old) × Same)
+fails_from result mid old new Same same = subst (λ (s : Shelf). OnErr result ((new ≡ s) × Same)) same
 
 -- ---- what is kept
 

@@ -9,7 +9,9 @@ use Rattle.std.specs.Ordering.{nat_cmp, eq_by_cmp}
 use Rattle.std.specs.Cmp.{unsigned_tied}
 use Rattle.std.specs.FinMap as finmap
 use Rattle.std.specs.FinSet as set
+use Rattle.std.proofs.lemmas.List.Kept.{AllPairs-from_increasing}
 use Rattle.lists.specs.Distinct.{AreDistinct}
+use Rattle.lists.proofs.Distinct.{distinct_from_places}
 use Rattle.lists.proofs.Cases.{same_test}
 use Rattle.lists.proofs.Entries.{Contains-head, Contains-later, Contains-cases, none_in_empty}
 use Rattle.lists.proofs.Keys.{contains-drop, len-drop, same_len}
@@ -87,3 +89,15 @@ pub set_listed : (s : set.FinSet nat_cmp) → (ids : List ℕ) × Lists (λ q. s
 set_listed s =
     some_list (λ q. set.contains s q ≡ true) (λ q. test_told (set.contains s q)) (suc (sum_by (λ n. n) (set.items s)))
     (λ q has. let low = name_below (set.items s) q (any_in (set.items s) q (sym (set.contains-items s q) ∙ has)) in omega arith)
+
+-- and a map's
+pub map_listed : (m : Numbers) → (ids : List ℕ) × Lists (λ q. finmap.contains_key m q ≡ true) ids
+map_listed m =
+    some_list (λ q. finmap.contains_key m q ≡ true) (λ q. test_told (finmap.contains_key m q)) (suc (sum_by (λ n. n) (finmap.keys m)))
+    (λ q has. let low = name_below (finmap.keys m) q (any_in (finmap.keys m) q (sym (finmap.contains_key-keys m q) ∙ has)) in omega arith)
+
+-- numbers in rising order are apart
+pub lists_once : {P : ℕ → Type 0} (ids : List ℕ) → Lists P ids → AreDistinct ids
+lists_once ids lists =
+    distinct_from_places ids (λ i j d before below same.
+    let less = AllPairs-from_increasing ids lists.rising i j d before below in omega (arith, less, same))

@@ -4,7 +4,6 @@ use Rattle.std.specs.Prelude.{slice_get}
 use Rattle.std.specs.List.{AllPairs}
 use Rattle.std.proofs.lemmas.List.{take_more}
 use Rattle.std.proofs.lemmas.List.Elements.{Contains-append_left, Contains-push, Contains-push_cases}
-use Rattle.lists.proofs.Entries.{none_in_empty}
 use Rattle.cluster.specs.Clusters.{Cluster, AreApart}
 use Rattle.name_book.specs.Calls.{ArePartedOff}
 use Rattle.levels.specs.Changes.{IsNamed as HasName}

@@ -1,16 +1,17 @@
 -- Names leave their clusters: what is left of these may come in, and what is made of it.
-use Rattle.std.proofs.Common.{◌≡◌, ℕ, ◌*◌, ◌<◌, ◌≤◌, IsSome, true≢false, List, [], ◌∷◌, ◌++◌, length, Contains, Option, Some, None, inl, inr, refl, sym, ap, ◌∙◌, subst, subst₂, arith}
-use Rattle.std.specs.Prelude.{slice_get, slice_index, option_to_list, IfSome, sum_by}
+use Rattle.std.proofs.Common.{◌≡◌, ℕ, ◌*◌, ◌<◌, ◌≤◌, IsSome, true≢false, List, [], ◌∷◌, ◌++◌, length, Contains, Option, Some, None, inl, inr, refl, sym, ap, ◌∙◌, subst, arith}
+use Rattle.std.specs.Prelude.{slice_get, slice_index, option_to_list, IfSome}
 use Rattle.std.proofs.lemmas.List.{get_or_default}
 use Rattle.std.proofs.lemmas.List.Elements.{Contains-append_right}
-use Rattle.std.proofs.lemmas.Option.{none-some, same_Some}
 use Rattle.std.specs.FinMap as finmap
 use Rattle.lists.proofs.Told.{told_number}
 use Rattle.graphs.specs.declared.names.Level.TheVariants.{Top}
 use Rattle.lists.specs.Distinct.{AreDistinct}
 use Rattle.lists.proofs.Entries.{Contains-head}
-use Rattle.cluster.specs.Clusters.{Cluster, IsCluster}
-use Rattle.levels.specs.Changes.{AreAt, Covers, IsNamed}
+use Rattle.cluster.specs.Clusters.{Cluster}
+use Rattle.record.specs.Records.{IsFitted}
+use Rattle.levels.proofs.Ordered.{fitted_record}
+use Rattle.levels.specs.Changes.{Covers}
 use Rattle.levels.specs.Lefts.{AreLeft}
 use Rattle.levels.specs.Moves.{DropsIn, DropsTop}
 use Rattle.levels.specs.Shelves.{IsInOrder, Shelf, numbers_at, seen_at}
@@ -22,7 +23,7 @@ module _ (w : ℕ) (gone outs : List ℕ) (rest : List Cluster) (last : Option C
     (left : AreLeft w gone outs rest last shelf) where
   pub covers_left : Covers (64 * w) left.olds (rest ++ option_to_list last) gone (numbers_at Top shelf)
   covers_left = record {
-    whole = left.whole;
+    whole = λ c here. fitted_record (64 * w) shelf.limits c (left.fitted c here);
     apart = left.apart;
     from = λ id named. inl ((left.drops.names id).0 named).0;
     kept = λ id named. elim (told_number gone id) [
@@ -65,10 +66,10 @@ module _ (w : ℕ) (gone outs : List ℕ) (rest : List Cluster) (last : Option C
         (one_list (seen_at Top shelf.store.clusters) outs left.olds is.olds left.at is.rebuilds.top.taken) left.drops;
   }
 
-  some_last : (o : Option Cluster) → ((c : Cluster) → Contains (rest ++ option_to_list o) c → IsCluster (64 * w) c) → IsSome o → 1 ≤ names_in (option_to_list o)
+  some_last : (o : Option Cluster) → ((c : Cluster) → Contains (rest ++ option_to_list o) c → IsFitted (64 * w) shelf.limits c) → IsSome o → 1 ≤ names_in (option_to_list o)
   some_last None whole some = absurd (true≢false (sym some))
   some_last (Some c) whole some =
-      let has = (whole c (Contains-append_right rest (c ∷ []) c (Contains-head c []))).some in omega (arith, has)
+      let has = (whole c (Contains-append_right rest (c ∷ []) c (Contains-head c []))).connected.some in omega (arith, has)
 
   -- what is left may come in
   pub comes_left : AreDistinct gone → (kept : ℕ) → kept ≡ names_in (option_to_list last) → Comes w outs rest last kept gone shelf
@@ -78,7 +79,8 @@ module _ (w : ℕ) (gone outs : List ℕ) (rest : List Cluster) (last : Option C
     lost = lost;
     at = left.at;
     covers = covers_left;
+    fitted = left.fitted;
     known = λ id named. ((left.drops.names id).0 named).0;
     front = has_own kept count;
-    some = λ some. subst (λ n. 1 ≤ n) (sym count) (some_last last left.whole some);
+    some = λ some. subst (λ n. 1 ≤ n) (sym count) (some_last last left.fitted some);
   }

@@ -11,6 +11,10 @@ use Rattle.cluster_store.specs.Stores.{Stored, Numbered, Store, IsStore}
 use Rattle.cluster_store.specs.Changes.{moved_to, settled, settled_to}
 use Rattle.staging.specs.Maps.{Maps}
 use Rattle.levels.specs.Shelves.{AllHave, IsInOrder, Shelf, numbers_at, seen_at, seen_in, view_of}
+use Rattle.graph_model.specs.declared.names.Limits.{Limits}
+use Rattle.graph_model.specs.Limits.{AreInRange, bounds_of}
+use Rattle.record.specs.Records.{IsFitted}
+use Rattle.levels.proofs.Seen.{both_seen, seen_is_stored}
 use Rattle.levels.specs.Views.{IsIndexed}
 use Rattle.levels.proofs.Calls.{shelf_of}
 use Rattle.levels.proofs.Shelved.{one_view, same_view}
@@ -49,7 +53,7 @@ both_settled stays (Some s) x is = both_to stays s.tag s x is
 
 -- ---- all of them
 
-module _ (w : ℕ) (stays : Level) (numbers : Maps ℕ) (store : Store) (new : Numbered) (order : IsInOrder w (shelf_of numbers store))
+module _ (w : ℕ) (stays : Level) (numbers : Maps ℕ) (store : Store) (new : Numbered) (limits : Limits) (order : IsInOrder w (shelf_of limits numbers store))
     (all : (n : ℕ) → finmap.get new n ≡ settled stays (finmap.get store.clusters n)) where
   abbrev old : Numbered
   old = store.clusters
@@ -62,18 +66,21 @@ module _ (w : ℕ) (stays : Level) (numbers : Maps ℕ) (store : Store) (new : N
 
   -- main is what stays, and there is no staging
   pub order_closed : (after : Shelf) → after.store.clusters ≡ new → IsStore (64 * w) after.store → after.staging ≡ None
-      → after.main ≡ numbers_at stays (shelf_of numbers store) → IsInOrder w after
-  order_closed after is sound none main =
+      → after.main ≡ numbers_at stays (shelf_of limits numbers store) → after.limits ≡ limits → IsInOrder w after
+  order_closed after is sound none main same =
       let both = subst (AllHave Both) (sym is) both_closed in
       let seen : (n : ℕ) → seen_at Main after.store.clusters n ≡ seen_at stays old n = λ n.
       ap (λ (m : Numbered). seen_at Main m n) is ∙ seen_closed n in
-      let view = same_view (view_of stays (shelf_of numbers store)) (view_of Main after) main seen in
-      let indexed = subst (IsIndexed (64 * w)) (sym view) (indexed_at w stays (shelf_of numbers store) order) in
+      let view = same_view (view_of stays (shelf_of limits numbers store)) (view_of Main after) main seen in
+      let indexed = subst (IsIndexed (64 * w)) (sym view) (indexed_at w stays (shelf_of limits numbers store) order) in
       record {
         wide = order.wide;
         narrow = order.narrow;
         main = indexed;
         top = subst (IsIndexed (64 * w)) (one_view after none both) indexed;
         store = sound;
+        in_range = subst (λ (l : Limits). AreInRange (64 * w) (bounds_of l)) (sym same) order.in_range;
+        fitted = λ n c at. subst (λ (l : Limits). IsFitted (64 * w) l c) (sym same)
+            (order.fitted n c (seen_is_stored stays old n c (sym (seen n) ∙ both_seen Main after.store.clusters both n ∙ at)));
         both = λ _. both;
       }

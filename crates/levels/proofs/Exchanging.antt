@@ -3,14 +3,16 @@ use Rattle.std.proofs.Common.{◌≡◌, ◌≢◌, ℕ, ◌*◌, Bool, true, fa
 use Rattle.std.specs.Prelude.{option_map, OnOk, OnErr}
 use Rattle.std.proofs.lemmas.Option.{none-some, same_Some}
 use Rattle.std.specs.FinMap as finmap
-use Rattle.lists.proofs.Entries.{map-Contains, Contains-map, none_in_empty}
+use Rattle.lists.proofs.Entries.{map-Contains, none_in_empty}
 use Rattle.lists.proofs.Told.{told_number}
 use Rattle.graphs.specs.declared.names.Level.{Level}
 use Rattle.graphs.specs.declared.names.Level.TheVariants.{Main, Top}
-use Rattle.chunk_index.specs.declared.entry.Tag.{Tag}
 use Rattle.chunk_index.specs.declared.entry.Tag.TheVariants.{Both}
 use Rattle.chunk_index.specs.Items.{is_in}
-use Rattle.cluster.specs.Clusters.{Cluster, IsCluster}
+use Rattle.cluster.specs.Clusters.{Cluster}
+use Rattle.graph_model.specs.declared.names.Limits.{Limits}
+use Rattle.graph_model.specs.Limits.{AreInRange, bounds_of}
+use Rattle.record.specs.Records.{IsFitted, IsRecord}
 use Rattle.cluster_store.specs.Changes.{ExchangesEach, with_cluster}
 use Rattle.cluster_store.specs.Stores.{Stored, Exchange, IsStore, Store}
 use Rattle.staging.specs.Maps.{Maps}
@@ -22,15 +24,16 @@ use Rattle.levels.proofs.Graphs.{cases_option}
 use Rattle.levels.proofs.Calls.{shelf_of}
 use Rattle.cluster_store.proofs.Listed.{at_one, other_one}
 use Rattle.levels.proofs.Finds.{indexed_at}
-use Rattle.levels.proofs.Making.{named_one, one_named, pairs_one, points_one, whole_one}
+use Rattle.levels.proofs.Making.{named_one, one_named, pairs_one, points_one, all_one}
 use Rattle.cluster_store.proofs.Seen.{same_seen}
 use Rattle.name_book.proofs.Entries.{some_key}
-use Rattle.levels.proofs.Seen.{seen_is_stored}
+use Rattle.levels.proofs.Seen.{seen_is_stored, stored_is_seen}
+use Rattle.levels.proofs.Ordered.{fitted_record}
 
 -- ---- a level in which a cluster takes the place of another of the same names
 
 pub rebuilds_swapped : (most number : ℕ) (a c : Cluster) (old new : View)
-    → IsIndexed most old → new.numbers ≡ old.numbers → IsCluster most c → c.names ≡ a.names
+    → IsIndexed most old → new.numbers ≡ old.numbers → IsRecord most c → c.names ≡ a.names
     → old.at number ≡ Some a → new.at number ≡ Some c → ((n : ℕ) → n ≢ number → new.at n ≡ old.at n)
     → Rebuilds most (number ∷ []) (number ∷ []) (a ∷ []) (c ∷ []) [] old new
 rebuilds_swapped most number a c old new indexed numbers whole names was now others =
@@ -49,7 +52,7 @@ rebuilds_swapped most number a c old new indexed numbers whole names was now oth
           (λ q here. ap (λ (m : Numbers). finmap.get m q) numbers ∙ indexed.listed number q a was (back q here))
           (λ q out. ap (λ (m : Numbers). finmap.get m q) numbers);
       covers = record {
-        whole = whole_one most c whole;
+        whole = all_one (IsRecord most) c whole;
         apart = pairs_one c;
         from = λ q named. inl (one_named a q (back q (named_one c q named)));
         kept = λ q named. inl (one_named c q (forth q (named_one a q named)));
@@ -102,13 +105,20 @@ module _ (w : ℕ) (exchanged : List Exchange) (old new : Shelf) (order : IsInOr
     pub was : Cluster
     pub at : seen_at level old.store.clusters number ≡ Some was
     pub names : c.names ≡ was.names
-    pub whole : IsCluster (64 * w) c
+    pub whole : IsRecord (64 * w) c
+    pub fitted : IsFitted (64 * w) old.limits c
 
   follows : (level : Level) (number : ℕ) (c : Cluster) → seen_at level new.store.clusters number ≡ Some c → Follows level number c
   follows level number c is = elim (by_number number) [
     | inl stays ↦
         let at = sym (same_seen level old.store.clusters new.store.clusters number stays) ∙ is in
-        record { was = c; at = at; names = refl; whole = (indexed_at w old order level).whole number c at }
+        record {
+          was = c;
+          at = at;
+          names = refl;
+          whole = (indexed_at w old order level).whole number c at;
+          fitted = order.fitted number c (seen_is_stored level old.store.clusters number c at);
+        }
     | inr e ↦ elim (cases_option (seen_at level old.store.clusters number)) [
       | inl none ↦ absurd (none-some c (ap (option_map (λ _. e.by.cluster)) (sym none) ∙ sym (e.seen level) ∙ is))
       | inr some ↦
@@ -118,7 +128,8 @@ module _ (w : ℕ) (exchanged : List Exchange) (old new : Shelf) (order : IsInOr
             was = some.0;
             at = some.1;
             names = subst (λ (d : Cluster). d.names ≡ some.0.names) one (same.names e.by some.0 e.in_list stored);
-            whole = subst (IsCluster (64 * w)) one (same.whole e.by e.in_list);
+            whole = subst (IsRecord (64 * w)) one (fitted_record (64 * w) old.limits e.by.cluster (same.fitted e.by e.in_list));
+            fitted = subst (IsFitted (64 * w) old.limits) one (same.fitted e.by e.in_list);
           }
     ]
   ]
@@ -146,13 +157,21 @@ module _ (w : ℕ) (exchanged : List Exchange) (old new : Shelf) (order : IsInOr
         whole = λ number c is. (follows level number c is).whole;
       }
 
-  pub order_exchanged : IsStore (64 * w) new.store → new.staging ≡ old.staging → IsInOrder w new
-  order_exchanged store staging = record {
+  fitted_now : (number : ℕ) (c : Cluster) → stored_at new.store.clusters number ≡ Some c → IsFitted (64 * w) old.limits c
+  fitted_now number c is = elim (stored_is_seen new.store.clusters number c is) [
+    | inl main ↦ (follows Main number c main).fitted
+    | inr top ↦ (follows Top number c top).fitted
+  ]
+
+  pub order_exchanged : IsStore (64 * w) new.store → new.staging ≡ old.staging → new.limits ≡ old.limits → IsInOrder w new
+  order_exchanged store staging limits = record {
     wide = order.wide;
     narrow = order.narrow;
     main = indexed_now Main;
     top = indexed_now Top;
     store = store;
+    in_range = subst (λ (l : Limits). AreInRange (64 * w) (bounds_of l)) (sym limits) order.in_range;
+    fitted = λ number c is. subst (λ (l : Limits). IsFitted (64 * w) l c) (sym limits) (fitted_now number c is);
     both = λ none number s is.
         let all : AllHave Both old.store.clusters = order.both (sym staging ∙ none) in
         elim (by_number number) [ inl stays ↦ all number s (sym stays ∙ is) | inr e ↦ let t = e.tag s is in t.2 ∙ all number t.0 t.1 ];
@@ -164,6 +183,7 @@ pub by_result : {X E P Q R : Type 0} (r : Result X E) → OnOk r P → OnErr r Q
 by_result (Ok x) ok err first second = first ok
 by_result (Err e) ok err first second = second err
 
-pub same_numbers : (level : Level) (numbers : Maps ℕ) (s t : Store) → numbers_at level (shelf_of numbers t) ≡ numbers_at level (shelf_of numbers s)
-same_numbers Main numbers s t = refl
-same_numbers Top numbers s t = refl
+pub same_numbers : (level : Level) (limits : Limits) (numbers : Maps ℕ) (s t : Store)
+    → numbers_at level (shelf_of limits numbers t) ≡ numbers_at level (shelf_of limits numbers s)
+same_numbers Main limits numbers s t = refl
+same_numbers Top limits numbers s t = refl

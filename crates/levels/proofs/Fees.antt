@@ -2,7 +2,6 @@
 use Rattle.std.proofs.Common.{◌≡◌, ◌≢◌, ℕ, ℤ, ◌*◌, List, [], ◌∷◌, map, Contains, Option, Some, None, IsSome, is_some, inl, inr, ◌⊎◌, refl, sym, ap, ◌∙◌, subst, true≢false, SFits, w64, of_z, to_z}
 use Rattle.std.specs.Prelude.{option_map, option_to_list}
 use Rattle.std.proofs.lemmas.Int.{to_z-of_z}
-use Rattle.std.proofs.lemmas.Bool.{cases_eq}
 use Rattle.std.proofs.lemmas.Option.{none-some, same_Some}
 use Rattle.std.specs.FinMap as finmap
 use Rattle.lists.specs.Distinct.{AreDistinct}
@@ -12,7 +11,7 @@ use Rattle.graphs.specs.declared.names.Level.{Level}
 use Rattle.graphs.specs.declared.names.Level.TheVariants.{Main, Top}
 use Rattle.graphs.specs.Closures.{Closure, rate_of, SetsFee}
 use Rattle.cluster.specs.Clusters.{Cluster}
-use Rattle.cluster_store.specs.Changes.{AreHeld, ExchangesEach}
+use Rattle.cluster_store.specs.Changes.{ExchangesEach}
 use Rattle.cluster_store.specs.Stores.{Exchange, Stored}
 use Rattle.levels.specs.Moves.{AreNumbersOf, ArePriced, IsPriced, SetsFeeAt, SetsFees}
 use Rattle.levels.specs.Shelves.{Shelf, IsInOrder, numbers_at, seen_at, stored_at, view_of}
@@ -20,10 +19,10 @@ use Rattle.levels.specs.Tops.{HaveSameNames}
 use Rattle.cluster_store.proofs.Listed.{only_one}
 use Rattle.levels.proofs.Graphs.{cases_option}
 use Rattle.levels.proofs.Exchanging.{IsExchanged, by_number, exchanged_at, rebuilds_swapped}
+use Rattle.levels.proofs.Ordered.{fitted_record}
 use Rattle.levels.proofs.Finds.{indexed_at}
 use Rattle.cluster_store.proofs.Seen.{same_seen}
 use Rattle.levels.proofs.Seen.{seen_is_stored}
-use Rattle.levels.proofs.Under.{held, is_stored}
 
 -- two numbers with the same bits are the same
 same_reading : (x y : ℤ) → SFits w64 x → SFits w64 y → of_z w64 x ≡ of_z w64 y → x ≡ y
@@ -62,7 +61,7 @@ HasOneRate id shelf =
 
 -- a shelf that stays as it is where the fee is the same
 pub fees_same : (w id : ℕ) (fee : ℤ) (shelf : Shelf) → IsInOrder w shelf → HaveFee id fee shelf → SetsFees w id fee shelf shelf
-fees_same w id fee shelf order have = record { main = at Main; top = at Top; numbers = refl; staging = refl }
+fees_same w id fee shelf order have = record { main = at Main; top = at Top; numbers = refl; staging = refl; limits = refl }
   where
     at : (level : Level) → SetsFeeAt w id fee level shelf shelf
     at level = record {
@@ -211,15 +210,15 @@ module _ (w id first : ℕ) (second : Option ℕ) (fee : ℤ) (list : List Excha
           let p = priced x.0 x.1 in
           subst (λ m. IsSome (finmap.get old.store.clusters m)) x.2 (stored_some p.was (finmap.get old.store.clusters x.0.number) p.at);
     };
-    whole = λ x here. (priced x here).whole;
+    fitted = λ x here. (priced x here).fitted;
     names = λ x c here at.
         let p = priced x here in p.names ∙ ap (λ (d : Cluster). d.names) (same_Some p.was c (sym p.at ∙ at));
   }
 
-  module _ (new : Shelf) (x : ExchangesEach list old.store.clusters new.store.clusters) (numbers : (new.main ≡ old.main) × (new.staging ≡ old.staging)) where
+  module _ (new : Shelf) (x : ExchangesEach list old.store.clusters new.store.clusters) (numbers : (new.main ≡ old.main) × (new.staging ≡ old.staging) × (new.limits ≡ old.limits)) where
     level_numbers : (level : Level) → numbers_at level new ≡ numbers_at level old
     level_numbers Main = numbers.0
-    level_numbers Top = λ i. numbers_at Top (record { main = numbers.0 i; staging = numbers.1 i; store = new.store })
+    level_numbers Top = λ i. numbers_at Top (record { limits = new.limits; main = numbers.0 i; staging = numbers.1 i; store = new.store })
 
     -- what was seen under a number whose cluster is exchanged
     was_is : (level : Level) (n : ℕ) (c : Cluster) (e : IsExchanged list old new n) → seen_at level old.store.clusters n ≡ Some c
@@ -255,11 +254,11 @@ module _ (w id first : ℕ) (second : Option ℕ) (fee : ℤ) (list : List Excha
             names,
             subst (λ (c : Cluster). SetsFee c.graph e.by.cluster.graph id fee) one p.sets,
             rebuilds_swapped (64 * w) number was e.by.cluster (view_of level old) (view_of level new) (indexed_at w old order level) (level_numbers level)
-                p.whole names seen (e.seen level ∙ ap (option_map (λ _. e.by.cluster)) seen)
+                (fitted_record (64 * w) old.limits e.by.cluster p.fitted) names seen (e.seen level ∙ ap (option_map (λ _. e.by.cluster)) seen)
                 (λ n other. unseen level n (λ same. other (same_Some n number (sym same ∙ is)))),
           );
       away = λ none n. unseen level n (λ some. none-some n (sym none ∙ some));
     }
 
     pub fees_exchanged : SetsFees w id fee old new
-    fees_exchanged = record { main = fee_at Main; top = fee_at Top; numbers = numbers.0; staging = numbers.1 }
+    fees_exchanged = record { main = fee_at Main; top = fee_at Top; numbers = numbers.0; staging = numbers.1; limits = numbers.2 }

@@ -1,29 +1,30 @@
--- What the levels of a shelf say of names, and that their parts are picks.
-use Rattle.std.proofs.Common.{◌≡◌, ℕ, ◌*◌, Option, Some, None, is_some, IfSome, sym, ap, ◌∙◌, subst, Contains}
-use Rattle.std.specs.Prelude.{option_map}
+-- What the levels of a shelf say of names.
+use Rattle.std.proofs.Common.{◌≡◌, ℕ, ◌*◌, Some, None, is_some, sym, ap, ap₂, ◌∙◌, subst, subst₂, Contains}
 use Rattle.std.specs.FinMap as finmap
 use Rattle.graphs.specs.Closures.{Closure, is_member}
 use Rattle.graphs.specs.declared.names.Level.{Level}
 use Rattle.graphs.specs.declared.names.Level.TheVariants.{Main, Top}
-use Rattle.cluster.specs.Clusters.{Cluster, IsCluster}
+use Rattle.cluster.specs.Clusters.{Cluster}
+use Rattle.record.specs.Records.{IsRecord}
 use Rattle.cluster_store.specs.Laws.{Stands, IsLevel}
 use Rattle.cluster_store.specs.Stores.{IsStore}
-use Rattle.cluster_store.proofs.Unions.{levels_are_picked}
-use Rattle.levels.specs.Levels.{OneLevel, Levels, HasPick, HavePicks, level_at}
+use Rattle.graph_model.specs.declared.names.Limits.{Limits}
+use Rattle.levels.specs.Levels.{OneLevel, Levels, IsWithin, level_at}
+use Rattle.levels.specs.Oversize.{IsOversized}
 use Rattle.levels.specs.Shelves.{Shelf, IsInOrder, levels_of, numbers_at, one_of, seen_at, view_of}
-use Rattle.levels.specs.Views.{Numbers, IsIndexed, IsClusterOf, graph_of}
+use Rattle.levels.specs.Views.{IsIndexed, IsClusterOf, graph_of}
 use Rattle.levels.proofs.Found.{cluster_of}
 use Rattle.levels.proofs.Graphs.{above_in, in_above, in_live, live_in, member-number, one_number, rate_in_cluster}
 use Rattle.levels.proofs.Shelved.{level_of_shelf, one_view, same_level, stands_seen}
 
 module _ (most : ℕ) (level : Level) (shelf : Shelf) (indexed : IsIndexed most (view_of level shelf)) (store : IsStore most shelf.store) where
-  seen : (n : ℕ) (c : Cluster) → Stands level shelf.store.clusters n c → seen_at level shelf.store.clusters n ≡ Some c
+  pub seen : (n : ℕ) (c : Cluster) → Stands level shelf.store.clusters n c → seen_at level shelf.store.clusters n ≡ Some c
   seen n c stands = (stands_seen level shelf.store.clusters n c).0 stands
 
-  unseen : (n : ℕ) (c : Cluster) → seen_at level shelf.store.clusters n ≡ Some c → Stands level shelf.store.clusters n c
+  pub unseen : (n : ℕ) (c : Cluster) → seen_at level shelf.store.clusters n ≡ Some c → Stands level shelf.store.clusters n c
   unseen n c is = (stands_seen level shelf.store.clusters n c).1 is
 
-  is_level : IsLevel level shelf.store.clusters (graph_of (view_of level shelf))
+  pub is_level : IsLevel level shelf.store.clusters (graph_of (view_of level shelf))
   is_level = record {
     apart = λ n m id c d first second here there. one_number most (view_of level shelf) indexed n m id c d (seen n c first) (seen m d second) here there;
     members = λ id. (
@@ -37,11 +38,6 @@ module _ (most : ℕ) (level : Level) (shelf : Shelf) (indexed : IsIndexed most 
     rates = λ n id c is here. rate_in_cluster most (view_of level shelf) indexed n id c (seen n c is) here;
   }
 
-  pub picked : HasPick (one_of level shelf)
-  picked =
-      let both = levels_are_picked most shelf.store level (graph_of (view_of level shelf)) store.ordered (λ n c is. indexed.whole n c (seen n c is)) is_level in
-      record { picked = both.0; uncut = both.1 }
-
 module _ (w : ℕ) (shelf : Shelf) (order : IsInOrder w shelf) where
   pub indexed_at : (level : Level) → IsIndexed (64 * w) (view_of level shelf)
   indexed_at Main = order.main
@@ -50,13 +46,6 @@ module _ (w : ℕ) (shelf : Shelf) (order : IsInOrder w shelf) where
   -- without a staging both levels are one
   pub alike : shelf.staging ≡ None → one_of Main shelf ≡ one_of Top shelf
   alike none = same_level (64 * w) Main Top shelf shelf order.store order.store (one_view shelf none (order.both none))
-
-  pub have_picks : (issued : ℕ) → HavePicks (levels_of shelf issued)
-  have_picks issued = (picked (64 * w) Main shelf order.main order.store, from shelf.staging)
-    where
-      from : (o : Option Numbers) → IfSome (option_map (λ _. one_of Top shelf) o) HasPick
-      from None = tt
-      from (Some m) = picked (64 * w) Top shelf order.top order.store
 
 -- ---- seen from the levels
 
@@ -76,5 +65,19 @@ module _ (w issued : ℕ) (shelf : Shelf) (now : Levels) (order : IsInOrder w sh
       subst (λ (g : Closure). IsClusterOf g id c) (sym (graph_is level))
       (cluster_of (64 * w) (view_of level shelf) (indexed_at w shelf order level) number c is id here)
 
-  pub whole_at : (level : Level) (number : ℕ) (c : Cluster) → seen_at level shelf.store.clusters number ≡ Some c → IsCluster (64 * w) c
+  pub whole_at : (level : Level) (number : ℕ) (c : Cluster) → seen_at level shelf.store.clusters number ≡ Some c → IsRecord (64 * w) c
   whole_at level number c is = (indexed_at w shelf order level).whole number c is
+
+  -- the limits are the shelf's, and so it is with what is over them
+  pub limits_is : now.limits ≡ shelf.limits
+  limits_is = sym (ap (λ (l : Levels). l.limits) view)
+
+  pub over_is : (level : Level) → IsOversized now.limits (level_at now level).graph ≡ IsOversized shelf.limits (graph_of (view_of level shelf))
+  over_is level = ap₂ IsOversized limits_is (graph_is level)
+
+  pub within_at : (level : Level) → IsWithin now level → IsOversized shelf.limits (graph_of (view_of level shelf)) → ⊥
+  within_at level = subst₂ (λ (l : Limits) (g : Closure). IsOversized l g → ⊥) limits_is (graph_is level)
+
+  pub both_at : IsWithin now Main × IsWithin now Top → (level : Level) → IsOversized shelf.limits (graph_of (view_of level shelf)) → ⊥
+  both_at within Main = within_at Main within.0
+  both_at within Top = within_at Top within.1

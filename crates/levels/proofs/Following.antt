@@ -1,6 +1,5 @@
 -- The rings are right again after a change of the top level of a shelf.
 use Rattle.std.proofs.Common.{◌≡◌, ℕ, ◌*◌, List, None, IsSome, inl, inr, ◌↔◌, sym, subst}
-use Rattle.std.specs.FinMap as finmap
 use Rattle.graphs.specs.declared.names.Level.TheVariants.{Top}
 use Rattle.cluster.specs.Clusters.{Cluster}
 use Rattle.name_book.specs.Calls.{Touches}

@@ -22,7 +22,7 @@ module _ (most : ℕ) (view : View) (indexed : IsIndexed most view) (number : �
 
   pub cluster_of : (id : ℕ) → Contains c.names id → IsClusterOf (graph_of view) id c
   cluster_of id here =
-      let cluster = indexed.whole number c is in
+      let cluster = (indexed.whole number c is).connected in
       record {
         members = cluster.members;
         here = here;

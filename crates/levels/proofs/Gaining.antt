@@ -1,13 +1,12 @@
 -- The rings are right again where a name came in, and where room was made.
-use Rattle.std.proofs.Common.{◌≡◌, ◌≢◌, ◌↔◌, ℕ, zero, suc, ◌*◌, ◌<◌, ◌≤◌, Bool, true, false, List, [], ◌∷◌, Option, Some, None, is_some, IsSome, Contains, inl, inr, refl, sym, ap, ◌∙◌, subst, true≢false, arith}
-use Rattle.std.specs.Prelude.{unwrap_or, MatchOption}
-use Rattle.std.proofs.lemmas.Option.{none-some}
+use Rattle.std.proofs.Common.{◌≡◌, ℕ, ◌*◌, Bool, true, false, List, [], ◌∷◌, Option, Some, None, is_some, IsSome, Contains, inl, inr, refl, sym, ◌∙◌, subst, true≢false, arith}
 use Rattle.std.specs.FinMap as finmap
 use Rattle.lists.proofs.Cases.{none_of}
-use Rattle.lists.proofs.Entries.{Contains-head, Contains-cases, none_in_empty}
+use Rattle.lists.proofs.Entries.{Contains-head, none_in_empty}
 use Rattle.fee_rate.specs.declared.rates.FeeRate.{FeeRate}
 use Rattle.graphs.specs.declared.names.Level.TheVariants.{Main, Top}
-use Rattle.cluster.specs.Clusters.{Cluster, IsCluster}
+use Rattle.cluster.specs.Clusters.{Cluster}
+use Rattle.record.specs.Records.{IsRecord}
 use Rattle.cluster.specs.Changes.{IsSingle}
 use Rattle.name_book.specs.Books.{IsNamed}
 use Rattle.name_book.specs.Calls.{Gains, Keeps}
@@ -46,7 +45,7 @@ absent_top rings shelf id right absent = no_number (finmap.get (numbers_at Top s
 
 -- ---- what comes in is a cluster of its own
 
-pub comes_new : (w id : ℕ) (c : Cluster) (shelf : Shelf) → IsCluster (64 * w) c → c.names ≡ id ∷ [] → finmap.get (numbers_at Top shelf) id ≡ None
+pub comes_new : (w id : ℕ) (c : Cluster) (shelf : Shelf) → IsRecord (64 * w) c → c.names ≡ id ∷ [] → finmap.get (numbers_at Top shelf) id ≡ None
     → (olds : List Cluster) × AreAt (seen_at Top shelf.store.clusters) [] olds × Covers (64 * w) olds (c ∷ []) [] (numbers_at Top shelf)
 comes_new w id c shelf whole names absent =
     ([], at_none (seen_at Top shelf.store.clusters), covers_new w id c (numbers_at Top shelf) whole names absent)

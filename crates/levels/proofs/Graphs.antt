@@ -114,7 +114,7 @@ module _ (most : ℕ) (view : View) (indexed : IsIndexed most view) where
   -- what a cluster says of its names holds in the graph, and the graph says no more of them
   pub above_in : (number a d : ℕ) (c : Cluster) → view.at number ≡ Some c → is_ancestor c.graph a d ≡ true → is_ancestor (graph_of view) a d ≡ true
   above_in number a d c is up =
-      let cluster = indexed.whole number c is in
+      let cluster = (indexed.whole number c is).connected in
       let here : Contains c.names d = (cluster.members d).0 (cluster.order.among a d up).1 in
       above-at view a d number c (indexed.listed number d c is here) is ∙ up
 
@@ -128,7 +128,7 @@ module _ (most : ℕ) (view : View) (indexed : IsIndexed most view) where
 
   pub names_of_above : (number a d : ℕ) (c : Cluster) → view.at number ≡ Some c → is_ancestor c.graph a d ≡ true → Contains c.names a × Contains c.names d
   names_of_above number a d c is up =
-      let cluster = indexed.whole number c is in
+      let cluster = (indexed.whole number c is).connected in
       let ends = cluster.order.among a d up in ((cluster.members a).0 ends.0, (cluster.members d).0 ends.1)
 
   pub above_from : (number a d : ℕ) (c : Cluster) → view.at number ≡ Some c → Contains c.names a ⊎ Contains c.names d
@@ -160,16 +160,16 @@ module _ (most : ℕ) (view : View) (indexed : IsIndexed most view) where
         (in_live at.number a at.cluster at.there ends.0, in_live at.number d at.cluster at.there ends.1);
     reflexive = λ p member.
         let at = live_in p member in
-        let cluster = indexed.whole at.0 at.2.cluster at.2.there in
+        let cluster = (indexed.whole at.0 at.2.cluster at.2.there).connected in
         above_in at.0 p p at.2.cluster at.2.there (cluster.order.reflexive p ((cluster.members p).1 at.2.here));
     transitive = λ a b d up down.
         let at = in_above a b up in
         let ends = names_of_above at.number a b at.cluster at.there at.above in
-        let cluster = indexed.whole at.number at.cluster at.there in
+        let cluster = (indexed.whole at.number at.cluster at.there).connected in
         above_in at.number a d at.cluster at.there (cluster.order.transitive a b d at.above (above_from at.number b d at.cluster at.there (inl ends.1) down));
     antisymmetric = λ a b up down.
         let at = in_above a b up in
         let ends = names_of_above at.number a b at.cluster at.there at.above in
-        let cluster = indexed.whole at.number at.cluster at.there in
+        let cluster = (indexed.whole at.number at.cluster at.there).connected in
         cluster.order.antisymmetric a b at.above (above_from at.number b a at.cluster at.there (inl ends.1) down);
   }

@@ -3,11 +3,8 @@ use Rattle.std.proofs.Common.{◌≡◌, ◌↔◌, ℕ, ◌≤◌, List, length
 use Rattle.std.specs.Prelude.{option_map}
 use Rattle.std.proofs.lemmas.Option.{none-some}
 use Rattle.std.specs.Ordering.{nat_cmp}
-use Rattle.std.proofs.lemmas.List.Kept.{AllPairs-from_increasing}
 use Rattle.std.specs.FinMap as finmap
 use Rattle.std.specs.FinSet as set
-use Rattle.lists.specs.Distinct.{AreDistinct}
-use Rattle.lists.proofs.Distinct.{distinct_from_places}
 use Rattle.lists.proofs.Keys.{set_len}
 use Rattle.lists.proofs.Cases.{none_of}
 use Rattle.graphs.specs.Closures.{Closure}
@@ -15,6 +12,7 @@ use Rattle.graphs.specs.Graphs.{Lists}
 use Rattle.graphs.specs.declared.names.Level.{Level}
 use Rattle.graphs.specs.declared.names.Level.TheVariants.{Main, Top}
 use Rattle.fee_rate.specs.declared.limits.TheConstants.{MAX_TOTAL}
+use Rattle.graph_model.specs.declared.names.Limits.{Limits}
 use Rattle.name_book.specs.Books.{IsNamed}
 use Rattle.name_book.specs.Calls.{HasNone}
 use Rattle.cluster_store.specs.Stores.{parts_of_level, places_by}
@@ -23,16 +21,10 @@ use Rattle.levels.specs.Levels.{Levels, IsLive, level_at, no_names}
 use Rattle.levels.specs.Rings.{Ringed, AreRight}
 use Rattle.levels.specs.Shelves.{Shelf, IsInOrder, levels_of, seen_at, no_clusters, numbers_at, one_of, view_of}
 use Rattle.levels.specs.Views.{Numbers, graph_of}
-use Rattle.levels.proofs.Counts.{graph_len, set_listed}
+use Rattle.levels.proofs.Counts.{graph_len, lists_once, set_listed}
 use Rattle.levels.proofs.Fewer.{few_at}
 use Rattle.levels.proofs.Finds.{alike, graph_is, level_is, member_is}
 use Rattle.levels.proofs.Unmoved.{same_one}
-
--- numbers in rising order are apart
-lists_once : {P : ℕ → Type 0} (ids : List ℕ) → Lists P ids → AreDistinct ids
-lists_once ids lists =
-    distinct_from_places ids (λ i j d before below same.
-    let less = AllPairs-from_increasing ids lists.rising i j d before below in omega (arith, less, same))
 
 module _ (w issued : ℕ) (shelf : Shelf) (now : Levels) (order : IsInOrder w shelf) (view : levels_of shelf issued ≡ now) where
   -- a level has as many names as it has numbers
@@ -87,8 +79,8 @@ right_none rings none = record {
   touched = λ id. (λ marked. absurd (none.touched id marked), λ apart. absurd (apart refl));
 }
 
-pub kept_none : (w : ℕ) (shelf : Shelf) (rings : Ringed) → shelf ≡ no_clusters → IsInOrder w shelf → HasNone rings → IsKept w shelf rings 0 0 0
-kept_none w shelf rings empty order none = record {
+pub kept_none : (w : ℕ) (limits : Limits) (shelf : Shelf) (rings : Ringed) → shelf ≡ no_clusters limits → IsInOrder w shelf → HasNone rings → IsKept w shelf rings 0 0 0
+kept_none w limits shelf rings empty order none = record {
   order = order;
   right = subst (λ (s : Shelf). SuitsShelf rings s) (sym empty) (right_none rings none);
   mains = sym (ap (λ (s : Shelf). finmap.len s.main) empty ∙ finmap.len-empty nat_cmp ℕ);
@@ -97,13 +89,35 @@ kept_none w shelf rings empty order none = record {
   few = subst (λ n. n ≤ MAX_TOTAL) (sym none.len) (omega arith);
 }
 
-pub levels_none : (shelf : Shelf) → shelf ≡ no_clusters → levels_of shelf 0 ≡ no_names
+pub levels_none : (limits : Limits) (shelf : Shelf) → shelf ≡ no_clusters limits → levels_of shelf 0 ≡ no_names limits
 unfolding places_by
-levels_none shelf empty =
-    let graph : graph_of (view_of Main no_clusters) ≡ finmap.empty =
-    finmap.empty_of_len (graph_of (view_of Main no_clusters)) (graph_len (view_of Main no_clusters) ∙ finmap.len-empty nat_cmp ℕ) in
+levels_none limits shelf empty =
+    let graph : graph_of (view_of Main (no_clusters limits)) ≡ finmap.empty =
+    finmap.empty_of_len (graph_of (view_of Main (no_clusters limits))) (graph_len (view_of Main (no_clusters limits)) ∙ finmap.len-empty nat_cmp ℕ) in
     ap (λ (s : Shelf). levels_of s 0) empty
-    ∙ (λ i. record { main = record { graph = graph i; parts = parts_of_level Main no_clusters.store }; staging = None; issued = 0 })
+    ∙ (λ i. record {
+      limits = limits;
+      main = record { graph = graph i; parts = parts_of_level Main (no_clusters limits).store };
+      staging = None;
+      issued = 0;
+    })
+
+-- other limits
+pub kept_limited : (w mains tops issued : ℕ) (limits : Limits) (old new : Shelf) (rings : Ringed) → new ≡ record old { limits = limits } → IsInOrder w new
+    → IsKept w old rings mains tops issued → IsKept w new rings mains tops issued
+kept_limited w mains tops issued limits old new rings is order kept = record {
+  order = order;
+  right = subst (λ (s : Shelf). SuitsShelf rings s) (sym is) kept.right;
+  mains = subst (λ (s : Shelf). mains ≡ finmap.len s.main) (sym is) kept.mains;
+  tops = subst (λ (s : Shelf). tops ≡ finmap.len (numbers_at Top s)) (sym is) kept.tops;
+  issued = kept.issued;
+  few = kept.few;
+}
+
+pub levels_limited : (limits : Limits) (old new : Shelf) (issued : ℕ) (now : Levels) → levels_of old issued ≡ now → new ≡ record old { limits = limits }
+    → levels_of new issued ≡ record now { limits = limits }
+levels_limited limits old new issued now view is =
+    ap (λ (s : Shelf). levels_of s issued) is ∙ ap (λ (l : Levels). record l { limits = limits }) view
 
 -- there is a staging of the shelf where the levels have one
 pub shelf_staged : (shelf : Shelf) (issued : ℕ) (now : Levels) → levels_of shelf issued ≡ now → is_some shelf.staging ≡ is_some now.staging
@@ -123,18 +137,18 @@ levels_begun w issued shelf new now order view none is =
     let top : one_of Top (record shelf { staging = Some shelf.main }) ≡ one_of Main shelf =
     ap (λ o. one_of Top (record shelf { staging = o })) (sym alone) ∙ sym (alike w shelf order alone) in
     ap (λ (s : Shelf). levels_of s issued) is
-    ∙ (λ i. record { main = one_of Main shelf; staging = Some (top i); issued = issued })
+    ∙ (λ i. record { limits = shelf.limits; main = one_of Main shelf; staging = Some (top i); issued = issued })
     ∙ ap (λ (l : Levels). record l { staging = Some l.main }) view
 
 -- ---- a staging that is closed
 
 pub levels_closed : (w issued : ℕ) (shelf new : Shelf) (now : Levels) → IsInOrder w shelf → IsInOrder w new → levels_of shelf issued ≡ now → (stays : Level)
-    → new.main ≡ numbers_at stays shelf → new.staging ≡ None → ((n : ℕ) → seen_at Main new.store.clusters n ≡ seen_at stays shelf.store.clusters n)
+    → new.main ≡ numbers_at stays shelf → new.staging ≡ None → new.limits ≡ shelf.limits → ((n : ℕ) → seen_at Main new.store.clusters n ≡ seen_at stays shelf.store.clusters n)
     → levels_of new issued ≡ record now { main = level_at now stays; staging = None }
-levels_closed w issued shelf new now order after view stays main none seen =
+levels_closed w issued shelf new now order after view stays main none limits seen =
     let same : one_of Main new ≡ level_at now stays =
     same_one w shelf new order after Main stays main seen ∙ sym (level_is w issued shelf now order view stays) in
-    λ i. record { main = same i; staging = option_map (λ _. one_of Top new) (none i); issued = (view i).issued }
+    λ i. record { limits = (limits ∙ ap (λ (l : Levels). l.limits) view) i; main = same i; staging = option_map (λ _. one_of Top new) (none i); issued = (view i).issued }
 
 -- each level has no more names than the levels together
 pub few_kept : (w mains tops issued : ℕ) (shelf : Shelf) (rings : Ringed) → IsKept w shelf rings mains tops issued → (level : Level)

@@ -14,6 +14,8 @@ mod Exchanging
 mod Fees
 mod Fewer
 mod Finds
+mod Fitting
+mod Oversizing
 mod Firsts
 mod Following
 mod Forgetting

@@ -1,12 +1,11 @@
 -- Names with the numbers of their clusters, one more after another, and by rising number.
-use Rattle.std.proofs.Common.{◌≡◌, ℕ, ◌+◌, ◌<◌, ◌≤◌, List, [], ◌∷◌, ◌++◌, length, get_or, take, map, Contains, Some, inl, inr, ◌↔◌, refl, sym, ap, ◌∙◌, subst, arith}
+use Rattle.std.proofs.Common.{◌≡◌, ℕ, ◌+◌, ◌<◌, List, [], ◌∷◌, ◌++◌, length, get_or, take, map, Contains, Some, inl, inr, sym, subst, arith}
 use Rattle.std.specs.FinMap as finmap
-use Rattle.std.specs.List.{AllPairs}
 use Rattle.std.specs.List.Sorted.{IsNonDecreasingBy, IsPermutation}
 use Rattle.std.proofs.lemmas.List.{map-append, take_more}
 use Rattle.std.proofs.lemmas.List.Elements.{Contains-append_left, Contains-append_right, Contains-append_cases}
 use Rattle.std.proofs.lemmas.List.Sorted.{Contains-permutation, IsPermutation-map, IsPermutation-sym}
-use Rattle.lists.proofs.Entries.{Contains-head, Contains-one, none_in_empty}
+use Rattle.lists.proofs.Entries.{Contains-one}
 use Rattle.graphs.specs.declared.names.Level.TheVariants.{Top}
 use Rattle.levels.specs.Lefts.{AreListed, AreNumbered}
 use Rattle.levels.specs.Shelves.{Shelf, numbers_at}

@@ -1,28 +1,17 @@
 -- What is left of some clusters without some names, and of one more.
-use Rattle.std.proofs.Common.{◌≡◌, ◌≢◌, ℕ, ◌+◌, ◌-◌, ◌*◌, ◌<◌, ◌≤◌, true, List, [], ◌∷◌, ◌++◌, length, get_or, map, All, Contains, Option, Some, None, inl, inr, ◌⊎◌, ◌↔◌, refl, sym, ap, ◌∙◌, subst, subst₂, arith, length-append}
-use Rattle.std.specs.Prelude.{slice_get, option_to_list}
-use Rattle.std.specs.FinMap as finmap
+use Rattle.std.proofs.Common.{◌≡◌, ℕ, ◌-◌, ◌<◌, true, List, [], ◌∷◌, ◌++◌, length, get_or, Contains, inl, inr, ◌⊎◌, ◌↔◌, refl, sym, ap, ◌∙◌, subst, subst₂, arith, length-append}
 use Rattle.std.specs.List.{AllPairs}
-use Rattle.std.specs.List.Sorted.{IsPermutation}
 use Rattle.std.proofs.lemmas.Bool.{cases_lt}
-use Rattle.std.proofs.lemmas.List.{append_assoc, get_or_append_left, get_or-append_right, get_or_default, map-append}
-use Rattle.std.proofs.lemmas.List.Elements.{All-contains, Contains-append_left, Contains-append_right, Contains-append_cases, Contains-get_or}
-use Rattle.std.proofs.lemmas.List.Sorted.{Contains-permutation, IsPermutation-append_comm, IsPermutation-append_right, IsPermutation-refl, IsPermutation-sym}
-use Rattle.std.proofs.lemmas.Option.{none-some, same_Some}
-use Rattle.lists.proofs.Distinct.{distinct_push}
-use Rattle.lists.proofs.Entries.{Contains-head, Contains-one, none_in_empty}
+use Rattle.std.proofs.lemmas.List.{get_or_append_left, get_or-append_right}
+use Rattle.std.proofs.lemmas.List.Elements.{Contains-append_left, Contains-append_right, Contains-append_cases, Contains-get_or}
+use Rattle.lists.proofs.Entries.{Contains-head, Contains-one}
 use Rattle.graphs.specs.Closures.{is_ancestor, rate_of}
-use Rattle.graphs.specs.declared.names.Level.TheVariants.{Top}
 use Rattle.cluster.specs.Changes.{IsAncestorIn, IsSplit}
-use Rattle.cluster.specs.Clusters.{Cluster, IsCluster, AreApart}
-use Rattle.levels.specs.Changes.{AreAt, IsNamed}
-use Rattle.levels.specs.Lefts.{AreLeft, Takes}
+use Rattle.cluster.specs.Clusters.{Cluster}
+use Rattle.record.specs.Records.{IsConnected}
+use Rattle.levels.specs.Changes.{IsNamed}
 use Rattle.levels.specs.Moves.{DropsIn}
-use Rattle.levels.specs.Shelves.{IsInOrder, Shelf, numbers_at, seen_at}
-use Rattle.levels.proofs.Ends.{got}
 use Rattle.levels.proofs.Making.{named_one, one_named}
-use Rattle.levels.proofs.Swaps.{all_pairs_permuted}
-use Rattle.levels.proofs.Under.{held}
 
 -- ---- lists
 
@@ -66,9 +55,9 @@ above_cases : (xs ys : List Cluster) (a d : ℕ) → IsAncestorIn (xs ++ ys) a d
 above_cases xs ys a d (c, there, up) = elim (Contains-append_cases xs ys c there) [ inl one ↦ inl (c, one, up) | inr two ↦ inr (c, two, up) ]
 
 -- where one is an ancestor of another in whole clusters, both are names
-ends_named : (most : ℕ) (xs : List Cluster) → ((c : Cluster) → Contains xs c → IsCluster most c) → (a d : ℕ) → IsAncestorIn xs a d
+ends_named : (xs : List Cluster) → ((c : Cluster) → Contains xs c → IsConnected c) → (a d : ℕ) → IsAncestorIn xs a d
     → IsNamed xs a × IsNamed xs d
-ends_named most xs whole a d (c, there, up) =
+ends_named xs whole a d (c, there, up) =
     let cluster = whole c there in
     let ends = cluster.order.among a d up in
     ((c, there, (cluster.members a).0 ends.0), (c, there, (cluster.members d).0 ends.1))
@@ -98,8 +87,8 @@ drops_same olds news news' gone gone' alike so drops = record {
 
 -- ---- both of two changes of other clusters
 
-module _ (most : ℕ) (olds more news pieces : List Cluster) (gone run : List ℕ) (first : DropsIn olds news gone) (second : DropsIn more pieces run)
-    (olds_whole : (c : Cluster) → Contains olds c → IsCluster most c) (more_whole : (c : Cluster) → Contains more c → IsCluster most c)
+module _ (olds more news pieces : List Cluster) (gone run : List ℕ) (first : DropsIn olds news gone) (second : DropsIn more pieces run)
+    (olds_whole : (c : Cluster) → Contains olds c → IsConnected c) (more_whole : (c : Cluster) → Contains more c → IsConnected c)
     (apart : (id : ℕ) → IsNamed olds id → IsNamed more id → ⊥)
     (gone_in : (id : ℕ) → Contains gone id → IsNamed more id → ⊥) (run_in : (id : ℕ) → Contains run id → IsNamed olds id → ⊥) where
   names_both : (id : ℕ) → IsNamed (news ++ pieces) id ↔ (IsNamed (olds ++ more) id × (Contains (gone ++ run) id → ⊥))
@@ -124,14 +113,14 @@ module _ (most : ℕ) (olds more news pieces : List Cluster) (gone run : List �
     λ up. elim (above_cases news pieces a d up) [
       | inl one ↦
           let was = (first.ancestors a d).0 one in
-          let ends = ends_named most olds olds_whole a d was.2 in (
+          let ends = ends_named olds olds_whole a d was.2 in (
             λ lost. elim (Contains-append_cases gone run a lost) [ inl early ↦ was.0 early | inr late ↦ run_in a late ends.0 ],
             λ lost. elim (Contains-append_cases gone run d lost) [ inl early ↦ was.1 early | inr late ↦ run_in d late ends.1 ],
             above_left olds more a d was.2,
           )
       | inr two ↦
           let was = (second.ancestors a d).0 two in
-          let ends = ends_named most more more_whole a d was.2 in (
+          let ends = ends_named more more_whole a d was.2 in (
             λ lost. elim (Contains-append_cases gone run a lost) [ inl early ↦ gone_in a early ends.0 | inr late ↦ was.0 late ],
             λ lost. elim (Contains-append_cases gone run d lost) [ inl early ↦ gone_in d early ends.1 | inr late ↦ was.1 late ],
             above_right olds more a d was.2,
@@ -167,8 +156,8 @@ module _ (most : ℕ) (olds more news pieces : List Cluster) (gone run : List �
 
 -- ---- what is left of one cluster
 
-module _ (most : ℕ) (c : Cluster) (run : List ℕ) (pieces : List Cluster) (cluster : IsCluster most c)
-    (whole : (d : Cluster) → Contains pieces d → IsCluster most d) (split : IsSplit c.graph run pieces)
+module _ (c : Cluster) (run : List ℕ) (pieces : List Cluster) (cluster : IsConnected c)
+    (whole : (d : Cluster) → Contains pieces d → IsConnected d) (split : IsSplit c.graph run pieces)
     (inside : (id : ℕ) → Contains run id → Contains c.names id) (some : (id : ℕ) × Contains run id) where
   piece_names : (id : ℕ) → IsNamed pieces id ↔ (Contains c.names id × (Contains run id → ⊥))
   piece_names id = (

@@ -1,19 +1,18 @@
 -- What comes into the top level of a shelf in the place of what goes out, and what a call of the shelf makes of it.
-use Rattle.std.proofs.Common.{◌≡◌, ◌≢◌, ℕ, zero, suc, ◌*◌, Bool, List, [], ◌∷◌, ◌++◌, length, Contains, Option, Some, None, is_some, IsSome, inl, inr, ◌⊎◌, ◌↔◌, refl, sym, ap, ◌∙◌, subst, arith, length-append}
-use Rattle.std.specs.Prelude.{slice_get, slice_index, option_to_list}
+use Rattle.std.proofs.Common.{◌≡◌, ℕ, zero, suc, ◌*◌, Bool, List, [], ◌∷◌, ◌++◌, Contains, Option, Some, None, is_some, IsSome, inl, inr, sym, ap, ◌∙◌, subst, arith}
+use Rattle.std.specs.Prelude.{slice_get, slice_index}
 use Rattle.std.specs.List.{AllPairs}
-use Rattle.std.proofs.lemmas.Bool.{cases_eq}
 use Rattle.std.proofs.lemmas.Option.{none-some, same_Some}
-use Rattle.std.proofs.lemmas.List.{append-nil}
 use Rattle.std.proofs.lemmas.List.Elements.{Contains-append_left, Contains-append_right, Contains-append_cases}
 use Rattle.std.specs.FinMap as finmap
 use Rattle.lists.proofs.Entries.{Contains-head, Contains-later, Contains-cases, none_in_empty}
 use Rattle.graphs.specs.declared.names.Level.TheVariants.{Top}
-use Rattle.cluster.specs.Clusters.{Cluster, IsCluster, AreApart}
+use Rattle.cluster.specs.Clusters.{Cluster, AreApart}
+use Rattle.record.specs.Records.{IsRecord}
 use Rattle.levels.specs.Changes.{AreAt, Covers, IsNamed, Points}
-use Rattle.levels.specs.Shelves.{Shelf, numbers_at, seen_at, view_of}
+use Rattle.levels.specs.Shelves.{Shelf, numbers_at, seen_at}
 use Rattle.levels.specs.Tops.{Exchanged, IsMade, TopRebuilds}
-use Rattle.levels.specs.Views.{IsIndexed, Numbers}
+use Rattle.levels.specs.Views.{Numbers}
 use Rattle.cluster_store.proofs.Listed.{at_more, at_one, only_one}
 use Rattle.levels.proofs.Pointing.{one_list}
 
@@ -31,9 +30,9 @@ one_named c id here = (c, Contains-head c [], here)
 pub pairs_one : (c : Cluster) → AllPairs AreApart (c ∷ [])
 pairs_one c i j d before low = absurd (omega (arith, before, low))
 
-pub whole_one : (most : ℕ) (c : Cluster) → IsCluster most c → (d : Cluster) → Contains (c ∷ []) d → IsCluster most d
-whole_one most c whole d here = elim (Contains-cases c d [] here) [
-  | inl same ↦ subst (IsCluster most) same whole
+pub all_one : (P : Cluster → Type 0) (c : Cluster) → P c → (d : Cluster) → Contains (c ∷ []) d → P d
+all_one P c whole d here = elim (Contains-cases c d [] here) [
+  | inl same ↦ subst P same whole
   | inr none ↦ absurd (none_in_empty d none)
 ]
 
@@ -56,6 +55,7 @@ pub record Shifts (staged : Bool) (outs made : List ℕ) (news : List Cluster) (
   pub exchanged : Exchanged staged outs made news old.store.clusters new.store.clusters
   pub is_staged : staged ≡ is_some old.staging
   pub kept : is_some new.staging ≡ is_some old.staging
+  pub limits : new.limits ≡ old.limits
   pub base : IsSome old.staging → new.main ≡ old.main
 
 pub shifts : (w : ℕ) (staged : Bool) (outs made : List ℕ) (olds news : List Cluster) (gone : List ℕ) (old new : Shelf) → Shifts staged outs made news old new
@@ -64,6 +64,7 @@ pub shifts : (w : ℕ) (staged : Bool) (outs made : List ℕ) (olds news : List 
 shifts w staged outs made olds news gone old new s taken points covers = record {
   top = record { taken = taken; exchanges = s.exchanged.top; points = points; covers = covers };
   staged = s.kept;
+  limits = s.limits;
   base = s.base;
   main = λ some. s.exchanged.main (s.is_staged ∙ some);
   fresh = λ some. s.exchanged.fresh (s.is_staged ∙ some);
@@ -72,10 +73,10 @@ shifts w staged outs made olds news gone old new s taken points covers = record 
 -- ---- what may come in
 
 -- a new name, alone
-pub covers_new : (w id : ℕ) (c : Cluster) (numbers : Numbers) → IsCluster (64 * w) c → c.names ≡ id ∷ [] → finmap.get numbers id ≡ None
+pub covers_new : (w id : ℕ) (c : Cluster) (numbers : Numbers) → IsRecord (64 * w) c → c.names ≡ id ∷ [] → finmap.get numbers id ≡ None
     → Covers (64 * w) [] (c ∷ []) [] numbers
 covers_new w id c numbers whole names absent = record {
-  whole = whole_one (64 * w) c whole;
+  whole = all_one (IsRecord (64 * w)) c whole;
   apart = pairs_one c;
   from = λ q named. inr (ap (finmap.get numbers) (only_one id q (subst (λ (xs : List ℕ). Contains xs q) names (named_one c q named))) ∙ absent);
   kept = λ q named. absurd (none_in_empty named.0 named.1);
@@ -83,9 +84,9 @@ covers_new w id c numbers whole names absent = record {
 }
 
 -- a cluster of the same names
-pub covers_same : (w : ℕ) (a c : Cluster) (numbers : Numbers) → IsCluster (64 * w) c → c.names ≡ a.names → Covers (64 * w) (a ∷ []) (c ∷ []) [] numbers
+pub covers_same : (w : ℕ) (a c : Cluster) (numbers : Numbers) → IsRecord (64 * w) c → c.names ≡ a.names → Covers (64 * w) (a ∷ []) (c ∷ []) [] numbers
 covers_same w a c numbers whole names = record {
-  whole = whole_one (64 * w) c whole;
+  whole = all_one (IsRecord (64 * w)) c whole;
   apart = pairs_one c;
   from = λ q named. inl (one_named a q (subst (λ (xs : List ℕ). Contains xs q) names (named_one c q named)));
   kept = λ q named. inl (one_named c q (subst (λ (xs : List ℕ). Contains xs q) (sym names) (named_one a q named)));
@@ -93,10 +94,10 @@ covers_same w a c numbers whole names = record {
 }
 
 -- one cluster of the names of two
-pub covers_joined : (w : ℕ) (a b c : Cluster) (numbers : Numbers) → IsCluster (64 * w) c → c.names ≡ a.names ++ b.names
+pub covers_joined : (w : ℕ) (a b c : Cluster) (numbers : Numbers) → IsRecord (64 * w) c → c.names ≡ a.names ++ b.names
     → Covers (64 * w) (a ∷ b ∷ []) (c ∷ []) [] numbers
 covers_joined w a b c numbers whole names = record {
-  whole = whole_one (64 * w) c whole;
+  whole = all_one (IsRecord (64 * w)) c whole;
   apart = pairs_one c;
   from = λ q named. inl (elim (Contains-append_cases a.names b.names q (subst (λ (xs : List ℕ). Contains xs q) names (named_one c q named))) [
     | inl x ↦ (a, Contains-head a (b ∷ []), x)

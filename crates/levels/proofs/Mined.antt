@@ -1,5 +1,5 @@
 -- Why names can't be mined: by the names of main, and by which of them are touched.
-use Rattle.std.proofs.Common.{◌≡◌, ◌≢◌, ◌⊎◌, ◌↔◌, ℕ, ◌+◌, ◌*◌, ◌<◌, ◌≤◌, Bool, true, false, List, ◌∷◌, length, take, get_or, slice_index_or, Contains, Option, Some, None, is_some, inl, inr, refl, sym, ap, ◌∙◌, subst, true≢false, arith}
+use Rattle.std.proofs.Common.{◌≡◌, ◌≢◌, ◌↔◌, ℕ, ◌*◌, ◌≤◌, true, false, List, ◌∷◌, length, get_or, Contains, Option, Some, None, is_some, inl, inr, refl, sym, ap, ◌∙◌, subst, arith}
 use Rattle.std.specs.Prelude.{unwrap_or}
 use Rattle.std.specs.Ordering.{nat_cmp}
 use Rattle.std.specs.FinMap as finmap
@@ -11,14 +11,12 @@ use Rattle.lists.proofs.Cases.{none_of}
 use Rattle.lists.proofs.Distinct.{distinct_apart}
 use Rattle.lists.proofs.Entries.{Contains-head}
 use Rattle.graphs.specs.declared.names.Level.TheVariants.{Main, Top}
-use Rattle.graphs.specs.Closures.{Closure, is_member, is_ancestor}
-use Rattle.graph_model.specs.declared.names.Refusal.{Refusal}
-use Rattle.graph_model.specs.declared.names.Refusal.TheVariants.{Twice, Unknown, Parent}
+use Rattle.graphs.specs.Closures.{Closure, is_member}
+use Rattle.graph_model.specs.declared.names.Refusal.TheVariants.{Unknown, Parent}
 use Rattle.graph_model.specs.Refusals.{IsFirst, StandsTwice}
 use Rattle.graph_model.proofs.FirstLemmas.{first_in}
 use Rattle.name_book.specs.Books.{IsNamed}
 use Rattle.name_book.specs.Calls.{Keeps, ReleasesAll, Touches}
-use Rattle.name_book.proofs.Named.{named-same}
 use Rattle.cluster.specs.Clusters.{Cluster}
 use Rattle.levels.specs.Kept.{IsKept, SuitsShelf}
 use Rattle.levels.specs.Mining.{FindsFirst, LacksListed, LacksTouched, MineRefusalIs}
@@ -27,7 +25,7 @@ use Rattle.levels.specs.Shelves.{Shelf, IsInOrder, numbers_at, seen_at, view_of}
 use Rattle.levels.specs.Views.{Numbers, graph_of}
 use Rattle.levels.proofs.Finds.{indexed_at}
 use Rattle.levels.proofs.Gaining.{right_reserved}
-use Rattle.levels.proofs.Graphs.{above_in, above_from, in_live, member-number, names_of_above}
+use Rattle.levels.proofs.Graphs.{above_in, above_from, member-number, names_of_above}
 use Rattle.levels.proofs.Seeking.{finds_alike}
 use Rattle.levels.proofs.Under.{held}
 
@@ -85,16 +83,19 @@ module _ (w : ℕ) (shelf : Shelf) (order : IsInOrder w shelf) (rings : Ringed) 
     λ h. (h.0, above_from (64 * w) (view_of Main shelf) (indexed_at w shelf order Main) number h.0 id c at (inr here) h.1, h.2),
   )
 
-  pub above_live : (a : ℕ) → is_ancestor c.graph a id ≡ true → is_member (graph_of (view_of Main shelf)) a ≡ true
-  above_live a up = in_live (64 * w) (view_of Main shelf) (indexed_at w shelf order Main) number a c at
-      (names_of_above (64 * w) (view_of Main shelf) (indexed_at w shelf order Main) number a id c at up).0
-
   -- alone in its cluster it has no other
   pub lone_lacks_none : length c.names ≡ 1 → IsMarked rings id → LacksTouched (graph_of (view_of Main shelf)) rings id → ⊥
   lone_lacks_none one marked h =
       let up = above_from (64 * w) (view_of Main shelf) (indexed_at w shelf order Main) number h.0 id c at (inr here) h.1 in
       let above = (names_of_above (64 * w) (view_of Main shelf) (indexed_at w shelf order Main) number h.0 id c at up).0 in
       h.2 (subst (IsMarked rings) (one_name c.names id h.0 one here above) marked)
+
+pub same_lacks : (rings : Ringed) (id : ℕ) (a b : Shelf) → a ≡ b
+    → LacksTouched (graph_of (view_of Main a)) rings id ↔ LacksTouched (graph_of (view_of Main b)) rings id
+same_lacks rings id a b same = (
+  subst (λ (s : Shelf). LacksTouched (graph_of (view_of Main s)) rings id) same,
+  subst (λ (s : Shelf). LacksTouched (graph_of (view_of Main s)) rings id) (sym same),
+)
 
 -- ---- the names that are touched meanwhile
 

@@ -1,10 +1,9 @@
 -- The rings are right again where a name was added.
-use Rattle.std.proofs.Common.{◌≡◌, ◌≢◌, ℕ, Bool, true, false, [], ◌∷◌, Some, None, is_some, IsSome, inl, inr, ◌⊎◌, ◌↔◌, refl, sym, ap, ◌∙◌, true≢false}
+use Rattle.std.proofs.Common.{◌≡◌, ◌≢◌, ℕ, true, [], ◌∷◌, Some, None, is_some, inl, inr, refl, sym, ap, ◌∙◌, true≢false}
 use Rattle.std.proofs.lemmas.Bool.{cases_eq}
-use Rattle.std.proofs.lemmas.Option.{none-some, same_Some}
+use Rattle.std.proofs.lemmas.Option.{none-some}
 use Rattle.std.specs.FinMap as finmap
 use Rattle.lists.proofs.Entries.{Contains-head, Contains-cases, none_in_empty}
-use Rattle.name_book.specs.Books.{IsNamed}
 use Rattle.name_book.specs.Calls.{Gains}
 use Rattle.levels.specs.Changes.{PointsOne}
 use Rattle.levels.specs.Rings.{Ringed, AreRight}

@@ -1,6 +1,6 @@
 -- One more pair between names of one cluster, or of two, as the clusters tell it that go out and come in.
-use Rattle.std.proofs.Common.{◌≡◌, ℕ, ◌+◌, ◌<◌, ◌≤◌, ◌*◌, true, ◌&&◌, ◌||◌, List, [], ◌∷◌, ◌++◌, length, get_or, Contains, Option, Some, inl, inr, ◌⊎◌, sym, ap, ◌∙◌, subst, subst₂, arith, length-append}
-use Rattle.std.specs.Prelude.{slice_get, slice_index, option_to_list, IfSome}
+use Rattle.std.proofs.Common.{◌≡◌, ℕ, ◌<◌, ◌≤◌, ◌*◌, true, ◌&&◌, List, [], ◌∷◌, ◌++◌, length, get_or, Contains, Option, Some, inl, inr, ◌⊎◌, sym, ap, ◌∙◌, subst, subst₂, arith, length-append}
+use Rattle.std.specs.Prelude.{slice_index, option_to_list, IfSome}
 use Rattle.std.proofs.lemmas.Bool.{and_from, and_parts, or_cases, or_left, or_right}
 use Rattle.std.proofs.lemmas.List.{get_or_append_left, get_or_default}
 use Rattle.std.proofs.lemmas.List.Elements.{Contains-append_left, Contains-append_right, Contains-append_cases}
@@ -9,15 +9,16 @@ use Rattle.std.specs.FinMap as finmap
 use Rattle.lists.specs.Distinct.{AreDistinct}
 use Rattle.lists.proofs.Entries.{Contains-head, Contains-later, Contains-cases, none_in_empty}
 use Rattle.graphs.specs.declared.names.Level.TheVariants.{Top}
-use Rattle.graphs.specs.Closures.{is_ancestor, is_member, rate_of, AddsPair}
-use Rattle.cluster.specs.Clusters.{Cluster, IsCluster}
+use Rattle.graphs.specs.Closures.{is_ancestor, rate_of, AddsPair}
+use Rattle.cluster.specs.Clusters.{Cluster}
+use Rattle.record.specs.Records.{IsConnected, IsFitted}
 use Rattle.cluster.specs.Changes.{AreAcross, IsAncestorIn, Joins, is_above}
 use Rattle.levels.specs.Changes.{AreAt, Covers, IsNamed}
 use Rattle.levels.specs.Moves.{AddsPairIn, PairsIn, PairsTop}
 use Rattle.levels.specs.Shelves.{Shelf, numbers_at, seen_at}
 use Rattle.levels.specs.Tops.{HasFront, IsMade}
 use Rattle.levels.specs.Views.{Numbers}
-use Rattle.levels.proofs.Making.{named_one, olds_are, one_made, one_named}
+use Rattle.levels.proofs.Making.{all_one, named_one, olds_are, one_made, one_named}
 
 -- ---- what one cluster says
 
@@ -67,7 +68,7 @@ module _ (p q : ℕ) (was now : Cluster) (names : now.names ≡ was.names) (pair
 
 -- ---- what two clusters say
 
-module _ (most p q : ℕ) (one other now : Cluster) (one_whole : IsCluster most one) (other_whole : IsCluster most other)
+module _ (p q : ℕ) (one other now : Cluster) (one_whole : IsConnected one) (other_whole : IsConnected other)
     (names : now.names ≡ one.names ++ other.names) (joins : Joins one.graph other.graph p q now.graph) (across : AreAcross one.names other.names p q) where
   abbrev both : List Cluster
   both = one ∷ other ∷ []
@@ -184,9 +185,9 @@ pairs_top w outs made number p q rest last kept old new pairs is =
 
 pub pairs_in : (w : ℕ) (outs : List ℕ) (p q : ℕ) (olds : List Cluster) (now : Cluster) (rest : List Cluster) (last : Option Cluster) (kept : ℕ) (shelf : Shelf)
     → rest ≡ [] → last ≡ Some now → AreDistinct outs → AreAt (seen_at Top shelf.store.clusters) outs olds
-    → Covers (64 * w) olds (now ∷ []) [] (numbers_at Top shelf) → HasFront kept outs now.names (numbers_at Top shelf) → 1 ≤ kept
+    → Covers (64 * w) olds (now ∷ []) [] (numbers_at Top shelf) → IsFitted (64 * w) shelf.limits now → HasFront kept outs now.names (numbers_at Top shelf) → 1 ≤ kept
     → AddsPairIn olds (now ∷ []) p q → PairsIn w outs p q rest last kept shelf
-pairs_in w outs p q olds now rest last kept shelf none one once at covers front some pair = record {
+pairs_in w outs p q olds now rest last kept shelf none one once at covers fitted front some pair = record {
   now = now;
   none = none;
   one = one;
@@ -196,6 +197,8 @@ pairs_in w outs p q olds now rest last kept shelf none one once at covers front 
     lost = tt;
     at = at;
     covers = subst₂ (λ (cs : List Cluster) (o : Option Cluster). Covers (64 * w) olds (cs ++ option_to_list o) [] (numbers_at Top shelf)) (sym none) (sym one) covers;
+    fitted = λ c here. all_one (IsFitted (64 * w) shelf.limits) now fitted c
+        (subst₂ (λ (cs : List Cluster) (o : Option Cluster). Contains (cs ++ option_to_list o) c) none one here);
     known = λ id named. (pair.names id).0 (subst₂ (λ (cs : List Cluster) (o : Option Cluster). IsNamed (cs ++ option_to_list o) id) none one named);
     front = subst (λ (o : Option Cluster). IfSome o (λ c. HasFront kept outs c.names (numbers_at Top shelf))) (sym one) front;
     some = λ _. some;

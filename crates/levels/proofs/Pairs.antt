@@ -43,7 +43,7 @@ module _ (g : Closure) (p q : ℕ) (c : Cluster) (t : AreTogether g p q c) where
     λ none. none t.p_live,
     inr (
       λ none. none t.q_live,
-      inr (λ up. true≢false (sym up ∙ apart), inr (λ n many. many.1.0 linked_already, inr (λ n large. large.1.0 linked_already, refl))),
+      inr (λ up. true≢false (sym up ∙ apart), inr (λ n many. many.2.0 linked_already, inr (λ n large. large.2.0 linked_already, refl))),
     ),
   )
 
@@ -111,7 +111,7 @@ module _ (g : Closure) (p q : ℕ) (a b : Cluster) (t : AreBetween g p q a b) wh
   pub count_is : length members ≡ length a.names + length b.names
   count_is = arranged_length (a.names ++ b.names) ∙ length-append a.names b.names
 
-  size_is : sum_by size_in_graph members ≡ sizes_of a + sizes_of b
+  pub size_is : sum_by size_in_graph members ≡ sizes_of a + sizes_of b
   size_is =
       arranged_sum size_in_graph (a.names ++ b.names) ∙ sum_by-append size_in_graph a.names b.names
       ∙ ap₂ (λ m n. m + n)
@@ -121,16 +121,16 @@ module _ (g : Closure) (p q : ℕ) (a b : Cluster) (t : AreBetween g p q a b) wh
   same_members : (others : List ℕ) → JoinsTo g p q others → others ≡ members
   same_members others so = Lists-same (IsLinkedToEither g p q) others members so.1 both_listed
 
-  many : (limits : Limits) (n : ℕ) → ((n ≡ length a.names + length b.names) × (limits.count < n)) ↔ JoinsTooMany limits g p q n
+  many : (limits : Limits) (n : ℕ) → ((limits.defer ≡ false) × (n ≡ length a.names + length b.names) × (limits.count < n)) ↔ JoinsTooMany limits g p q n
   many limits n = (
-    λ over. (members, joins, over.0 ∙ sym count_is, over.1),
-    λ too. (too.2 ∙ ap length (same_members too.0 too.1) ∙ count_is, too.3),
+    λ over. (members, over.0, joins, over.1 ∙ sym count_is, over.2),
+    λ too. (too.1, too.3 ∙ ap length (same_members too.0 too.2) ∙ count_is, too.4),
   )
 
-  large : (limits : Limits) (n : ℕ) → ((n ≡ sizes_of a + sizes_of b) × (limits.size < n)) ↔ JoinsTooLarge limits g p q n
+  large : (limits : Limits) (n : ℕ) → ((limits.defer ≡ false) × (n ≡ sizes_of a + sizes_of b) × (limits.size < n)) ↔ JoinsTooLarge limits g p q n
   large limits n = (
-    λ over. (members, joins, over.0 ∙ sym size_is, over.1),
-    λ too. (too.2 ∙ ap (sum_by size_in_graph) (same_members too.0 too.1) ∙ size_is, too.3),
+    λ over. (members, over.0, joins, over.1 ∙ sym size_is, over.2),
+    λ too. (too.1, too.3 ∙ ap (sum_by size_in_graph) (same_members too.0 too.2) ∙ size_is, too.4),
   )
 
   pub between_row : (limits : Limits) (found : Option Refusal)

@@ -1,11 +1,11 @@
 -- How far the clusters of the top level have lost names, where the names stand by rising number of their clusters.
-use Rattle.std.proofs.Common.{◌≡◌, ◌≢◌, ℕ, zero, suc, ◌+◌, ◌*◌, ◌<◌, ◌≤◌, Bool, true, false, not, nat_eq, true≢false, eqb-true, eq-eqb, List, [], ◌∷◌, ◌++◌, length, get_or, take, drop, map, All, Contains, Option, Some, None, IsSome, inl, inr, ◌⊎◌, ◌↔◌, refl, sym, ap, ◌∙◌, subst, subst₂, arith, length-append}
+use Rattle.std.proofs.Common.{◌≡◌, ◌≢◌, ℕ, ◌+◌, ◌*◌, ◌<◌, ◌≤◌, Bool, true, false, not, nat_eq, true≢false, eqb-true, eq-eqb, List, [], ◌∷◌, ◌++◌, length, get_or, drop, map, All, Contains, Option, Some, None, IsSome, inl, inr, ◌↔◌, refl, sym, ap, ◌∙◌, subst, subst₂, arith, length-append}
 use Rattle.std.specs.Prelude.{slice_get, slice_index, option_to_list}
 use Rattle.std.specs.FinMap as finmap
 use Rattle.std.specs.List.{AllPairs, list_any}
 use Rattle.std.specs.List.Sorted.{IsPermutation}
 use Rattle.std.proofs.lemmas.Bool.{cases_eq}
-use Rattle.std.proofs.lemmas.List.{append_assoc, append-nil, get_or_default, get_or-append-add, get_or-drop, length-drop, map-append, take-append-drop}
+use Rattle.std.proofs.lemmas.List.{append_assoc, append-nil, get_or_default, get_or-append-add, get_or-drop, length-drop, map-append}
 use Rattle.std.proofs.lemmas.List.Elements.{All-contains, Contains-append_left, Contains-append_right, Contains-append_cases, Contains-get_or}
 use Rattle.std.proofs.lemmas.List.Folds.{Any-from_list_any, list_any_at}
 use Rattle.std.proofs.lemmas.List.Sorted.{Contains-permutation, IsPermutation-append_comm, IsPermutation-append_right, IsPermutation-sym}
@@ -16,15 +16,16 @@ use Rattle.lists.proofs.Entries.{Contains-head, Contains-one, map-Contains, Cont
 use Rattle.graphs.specs.Closures.{Closure, IsRelated, is_ancestor}
 use Rattle.graphs.specs.declared.names.Level.TheVariants.{Top}
 use Rattle.cluster.specs.Changes.{AreComponents, IsSplit}
-use Rattle.cluster.specs.Clusters.{Cluster, IsCluster, AreApart}
-use Rattle.cluster.specs.Steps.{most_steps_of}
+use Rattle.cluster.specs.Clusters.{Cluster, AreApart}
+use Rattle.graph_model.specs.declared.names.Limits.{Limits}
+use Rattle.record.specs.Records.{IsConnected, IsFitted}
+use Rattle.record.specs.Steps.{most_steps_fit_of}
 use Rattle.levels.specs.Changes.{AreAt, IsNamed}
-use Rattle.levels.specs.Lefts.{AreLeft, AreListed, AreRests, DropsWithin, IsRun, Takes}
+use Rattle.levels.specs.Lefts.{AreLeft, AreListed, DropsWithin, IsRun, Takes}
 use Rattle.levels.specs.Moves.{DropsIn}
 use Rattle.levels.specs.Shelves.{IsInOrder, Shelf, numbers_at, seen_at, stored_at, view_of}
 use Rattle.levels.specs.Views.{graph_of}
 use Rattle.cluster_store.proofs.Listed.{at_joined, at_none, at_one}
-use Rattle.levels.proofs.Ends.{got}
 use Rattle.levels.proofs.Found.{cluster_of}
 use Rattle.levels.proofs.Graphs.{in_above, names_of_above, order_of}
 use Rattle.levels.proofs.Lookups.{placed_of}
@@ -45,7 +46,7 @@ pub record IsPartway (w : ℕ) (shelf : Shelf) (listed coming : List (ℕ × ℕ
   pub left : AreLeft w (names_of done) outs rest last shelf
   pub numbers : (n : ℕ) → Contains outs n → Contains (map (λ e. e.0) done) n
   pub other : (d e : ℕ × ℕ) → Contains done d → Contains coming e → d.0 ≢ e.0
-  pub steps : DropsWithin (names_of done) (graph_of (view_of Top shelf)) before after
+  pub steps : DropsWithin shelf.limits (names_of done) (graph_of (view_of Top shelf)) before after
 
 -- ---- none are done
 
@@ -57,7 +58,7 @@ none_done w shelf listed steps = record {
     olds = [];
     once = tt;
     at = at_none (seen_at Top shelf.store.clusters);
-    whole = λ c none. absurd (none_in_empty c none);
+    fitted = λ c none. absurd (none_in_empty c none);
     apart = λ i j d before low. absurd (omega (arith, low));
     drops = record {
       each = λ c none. absurd (none_in_empty c none);
@@ -81,8 +82,8 @@ begun w shelf listed coming outs rest steps same no_outs no_rest =
     (none_done w shelf listed steps))
 
 -- no steps were taken
-pub no_steps : (ids : List ℕ) (g : Closure) (steps : ℕ) → DropsWithin ids g steps steps
-no_steps ids g steps = record { grew = omega arith; few = λ lists rests. omega arith }
+pub no_steps : (limits : Limits) (ids : List ℕ) (g : Closure) (steps : ℕ) → DropsWithin limits ids g steps steps
+no_steps limits ids g steps = record { grew = omega arith; few = λ lists rests. omega arith }
 
 -- ---- the steps for some names, and for all
 
@@ -150,11 +151,11 @@ module _ (w : ℕ) (shelf : Shelf) (order : IsInOrder w shelf) (ids : List ℕ) 
   told : names_of done ++ names_of later ≡ names_of listed
   told = sym (map-append (λ (e : ℕ × ℕ). e.1) done later) ∙ ap names_of (sym split)
 
-  pub steps_of_all : (before after : ℕ) → DropsWithin (names_of done) whole_graph before after → DropsWithin ids whole_graph before after
+  pub steps_of_all : (before after : ℕ) → DropsWithin shelf.limits (names_of done) whole_graph before after → DropsWithin shelf.limits ids whole_graph before after
   steps_of_all before after drops =
-      within_same (names_of listed) ids whole_graph before after (λ id. ((are.numbered.exact id).1, (are.numbered.exact id).0))
-      (subst (λ (xs : List ℕ). DropsWithin xs whole_graph before after) told
-      (within_more whole_graph test closed (names_of done) (names_of later) inside_later outside_later before after drops))
+      within_same shelf.limits (names_of listed) ids whole_graph before after (λ id. ((are.numbered.exact id).1, (are.numbered.exact id).0))
+      (subst (λ (xs : List ℕ). DropsWithin shelf.limits xs whole_graph before after) told
+      (within_more shelf.limits whole_graph test closed (names_of done) (names_of later) inside_later outside_later before after drops))
 
 -- ---- all are done
 
@@ -164,7 +165,7 @@ left_same w gone gone' outs rest last shelf same left = record {
   olds = left.olds;
   once = left.once;
   at = left.at;
-  whole = left.whole;
+  fitted = left.fitted;
   apart = left.apart;
   drops = drops_same left.olds (rest ++ option_to_list last) (rest ++ option_to_list last) gone gone' (λ c. (λ h. h, λ h. h)) same left.drops;
   all = λ id here. left.all id ((same id).1 here);
@@ -185,7 +186,7 @@ module _ (w : ℕ) (shelf : Shelf) (order : IsInOrder w shelf) (ids : List ℕ) 
   pub all_left : AreLeft w ids outs rest last shelf
   all_left = left_same w (names_of partway.done) ids outs rest last shelf same partway.left
 
-  pub all_steps : DropsWithin ids (graph_of (view_of Top shelf)) before after
+  pub all_steps : DropsWithin shelf.limits ids (graph_of (view_of Top shelf)) before after
   all_steps = steps_of_all w shelf order ids listed are partway.done [] partway.split partway.other before after partway.steps
 
 -- ---- a run of names of one cluster
@@ -266,8 +267,8 @@ module _ (w : ℕ) (shelf : Shelf) (order : IsInOrder w shelf) (ids : List ℕ) 
   abbrev news : List Cluster
   news = rest ++ option_to_list last
 
-  cluster : IsCluster (64 * w) c
-  cluster = order.top.whole number c at
+  cluster : IsConnected c
+  cluster = (order.top.whole number c at).connected
 
   abbrev a_first : (e : ℕ × ℕ) × Contains run e
   a_first = first w shelf order number run is_run
@@ -311,8 +312,8 @@ module _ (w : ℕ) (shelf : Shelf) (order : IsInOrder w shelf) (ids : List ℕ) 
       let at_outs = placed_of (seen_at Top shelf.store.clusters) outs olds d partway.left.at here in
       (slice_index outs at_outs.place, at_outs.number, at_outs.stands)
 
-  olds_whole : (d : Cluster) → Contains olds d → IsCluster (64 * w) d
-  olds_whole d here = let one = old_at d here in order.top.whole one.0 d one.2
+  olds_whole : (d : Cluster) → Contains olds d → IsConnected d
+  olds_whole d here = let one = old_at d here in (order.top.whole one.0 d one.2).connected
 
   not_old : (id : ℕ) → finmap.get (numbers_at Top shelf) id ≡ Some number → IsNamed olds id → ⊥
   not_old id is (d, here, there) =
@@ -323,8 +324,8 @@ module _ (w : ℕ) (shelf : Shelf) (order : IsInOrder w shelf) (ids : List ℕ) 
   its_number : (id : ℕ) → IsNamed (c ∷ []) id → finmap.get (numbers_at Top shelf) id ≡ Some number
   its_number id named = order.top.listed number id c at (named_one c id named)
 
-  one_whole : (d : Cluster) → Contains (c ∷ []) d → IsCluster (64 * w) d
-  one_whole d here = subst (IsCluster (64 * w)) (Contains-one c d here) cluster
+  one_whole : (d : Cluster) → Contains (c ∷ []) d → IsConnected d
+  one_whole d here = subst IsConnected (Contains-one c d here) cluster
 
   names_told : names_of done ++ names_of run ≡ names_of (done ++ run)
   names_told = sym (map-append (λ (e : ℕ × ℕ). e.1) done run)
@@ -339,29 +340,32 @@ module _ (w : ℕ) (shelf : Shelf) (order : IsInOrder w shelf) (ids : List ℕ) 
   split_later = partway.split ∙ sym (append_assoc done run later)
 
   -- the steps of what is left of the cluster
-  steps_more : mid ≤ after → ((lists : List (List ℕ)) → AreComponents c.graph (names_of run) lists → after ≤ mid + most_steps_of lists)
-      → DropsWithin (names_of (done ++ run)) (graph_of (view_of Top shelf)) before after
+  steps_more : mid ≤ after → ((lists : List (List ℕ)) → AreComponents c.graph (names_of run) lists → after ≤ mid + most_steps_fit_of shelf.limits c.graph lists)
+      → DropsWithin shelf.limits (names_of (done ++ run)) (graph_of (view_of Top shelf)) before after
   steps_more grew few =
-      subst (λ (xs : List ℕ). DropsWithin xs (graph_of (view_of Top shelf)) before after) names_told
-      (within_both (64 * w) (graph_of (view_of Top shelf)) (order_of (64 * w) (view_of Top shelf) order.top) c cluster
-      (cluster_of (64 * w) (view_of Top shelf) order.top number c at) (names_of done) (names_of run) run_inside outside run_first before mid after
+      subst (λ (xs : List ℕ). DropsWithin shelf.limits xs (graph_of (view_of Top shelf)) before after) names_told
+      (within_both (graph_of (view_of Top shelf)) (order_of (64 * w) (view_of Top shelf) order.top) c cluster
+      (cluster_of (64 * w) (view_of Top shelf) order.top number c at) shelf.limits (names_of done) (names_of run) run_inside outside run_first before mid after
       partway.steps grew few)
 
   -- where memory runs out then, they are within those of all
-  pub steps_then : mid ≤ after → ((lists : List (List ℕ)) → AreComponents c.graph (names_of run) lists → after ≤ mid + most_steps_of lists)
-      → DropsWithin ids (graph_of (view_of Top shelf)) before after
+  pub steps_then : mid ≤ after → ((lists : List (List ℕ)) → AreComponents c.graph (names_of run) lists → after ≤ mid + most_steps_fit_of shelf.limits c.graph lists)
+      → DropsWithin shelf.limits ids (graph_of (view_of Top shelf)) before after
   steps_then grew few = steps_of_all w shelf order ids listed are (done ++ run) later split_later others_later before after (steps_more grew few)
 
-  module _ (pieces : List Cluster) (split : IsSplit c.graph (names_of run) pieces) (whole : All (IsCluster (64 * w)) pieces) (outs' : List ℕ)
+  module _ (pieces : List Cluster) (split : IsSplit c.graph (names_of run) pieces) (whole : All (IsFitted (64 * w) shelf.limits) pieces) (outs' : List ℕ)
       (rest' : List Cluster) (last' : Option Cluster) (takes : Takes number pieces outs rest last outs' rest' last')
-      (grew : mid ≤ after) (few : (lists : List (List ℕ)) → AreComponents c.graph (names_of run) lists → after ≤ mid + most_steps_of lists) where
-    pieces_whole : (d : Cluster) → Contains pieces d → IsCluster (64 * w) d
-    pieces_whole d here = All-contains (IsCluster (64 * w)) pieces d whole here
+      (grew : mid ≤ after) (few : (lists : List (List ℕ)) → AreComponents c.graph (names_of run) lists → after ≤ mid + most_steps_fit_of shelf.limits c.graph lists) where
+    pieces_fitted : (d : Cluster) → Contains pieces d → IsFitted (64 * w) shelf.limits d
+    pieces_fitted d here = All-contains (IsFitted (64 * w) shelf.limits) pieces d whole here
+
+    pieces_whole : (d : Cluster) → Contains pieces d → IsConnected d
+    pieces_whole d here = (pieces_fitted d here).connected
 
     -- without an old cluster there is no new one
     none_new : outs ≡ [] → news ≡ []
     none_new none = empty_of news (λ d here.
-        let one = partway.left.whole d here in
+        let one = (partway.left.fitted d here).connected in
         let id : ℕ = slice_index d.names 0 in
         let named : IsNamed news id = (d, here, Contains-get_or d.names 0 0 one.some) in
         let (old, there, kept) = ((partway.left.drops.names id).0 named).0 in
@@ -381,14 +385,14 @@ module _ (w : ℕ) (shelf : Shelf) (order : IsInOrder w shelf) (ids : List ℕ) 
     )
 
     in_c : (d : Cluster) → Contains pieces d → (id : ℕ) → Contains d.names id → Contains c.names id
-    in_c = piece_in (64 * w) c (names_of run) pieces cluster pieces_whole split run_inside run_first
+    in_c = piece_in c (names_of run) pieces cluster pieces_whole split run_inside run_first
 
     drops : DropsIn (olds ++ c ∷ []) all_news (names_of (done ++ run))
     drops =
         subst (λ (xs : List ℕ). DropsIn (olds ++ c ∷ []) all_news xs) names_told
         (drops_same (olds ++ c ∷ []) (news ++ pieces) all_news (names_of done ++ names_of run) (names_of done ++ names_of run) alike (λ id. (λ h. h, λ h. h))
-        (drops_both (64 * w) olds (c ∷ []) news pieces (names_of done) (names_of run) partway.left.drops
-        (drops_one (64 * w) c (names_of run) pieces cluster pieces_whole split run_inside run_first) olds_whole one_whole
+        (drops_both olds (c ∷ []) news pieces (names_of done) (names_of run) partway.left.drops
+        (drops_one c (names_of run) pieces cluster pieces_whole split run_inside run_first) olds_whole one_whole
         (λ id old one. not_old id (its_number id one) old)
         (λ id gone one. outside id gone (named_one c id one))
         (λ id gone old. not_old id (run_numbered id gone) old)))
@@ -406,9 +410,9 @@ module _ (w : ℕ) (shelf : Shelf) (order : IsInOrder w shelf) (ids : List ℕ) 
       at = subst (λ (xs : List ℕ). AreAt (seen_at Top shelf.store.clusters) xs (olds ++ c ∷ [])) (sym takes.outs_are)
           (at_joined (seen_at Top shelf.store.clusters) outs (number ∷ []) olds (c ∷ []) partway.left.at
           (at_one (seen_at Top shelf.store.clusters) number c at));
-      whole = λ d here. elim (Contains-append_cases news pieces d ((alike d).1 here)) [
-        | inl old ↦ partway.left.whole d old
-        | inr new ↦ pieces_whole d new
+      fitted = λ d here. elim (Contains-append_cases news pieces d ((alike d).1 here)) [
+        | inl old ↦ partway.left.fitted d old
+        | inr new ↦ pieces_fitted d new
       ];
       apart = apart;
       drops = drops;

@@ -1,5 +1,5 @@
 -- Where the parts of names stand in a level, and what stands there.
-use Rattle.std.proofs.Common.{◌≡◌, ◌≢◌, ℕ, ◌*◌, ◌&&◌, nat_eq, true, false, true≢false, eq-eqb, eqb-true, List, flat_map, Contains, Some, sym, ap, ◌∙◌, subst}
+use Rattle.std.proofs.Common.{◌≡◌, ◌≢◌, ℕ, ◌*◌, ◌&&◌, nat_eq, true, false, true≢false, eq-eqb, eqb-true, List, [], flat_map, Contains, Some, sym, ap, ◌∙◌, subst}
 use Rattle.std.proofs.lemmas.Bool.{and_parts, and_from}
 use Rattle.std.proofs.lemmas.Option.{same_Some, slice_get_within, get_or_from_slice_get}
 use Rattle.std.specs.Prelude.{slice_get}
@@ -9,7 +9,8 @@ use Rattle.graphs.specs.Closures.{is_ancestor, IsCover}
 use Rattle.graphs.specs.Linearizations.{StandsBefore}
 use Rattle.graphs.specs.Merges.{Precedes}
 use Rattle.graphs.proofs.MergeLemmas.{stands_within}
-use Rattle.cluster.specs.Clusters.{Cluster, IsCluster}
+use Rattle.lists.proofs.Entries.{none_in_empty}
+use Rattle.cluster.specs.Clusters.{Cluster}
 use Rattle.cluster.specs.Covers.{ListsInOrder}
 use Rattle.cluster_store.specs.Laws.{Stands, StandsAt, PartsStandInOrder}
 use Rattle.cluster_store.specs.Stores.{Stored, Numbered}
@@ -58,6 +59,19 @@ seen_there level clusters place part c there is =
     let seen = (stands_seen level clusters place.0 there.0).0 there.1 in
     seen ∙ ap Some (same_Some there.0 c (sym (seen_is_stored level clusters place.0 there.0 seen) ∙ is))
 
+-- and it has parts
+pub part_ordered : (level : Level) (clusters : Numbered) (place : ℕ × ℕ) (part : Part) → StandsAt level clusters place part
+    → (c : Cluster) × (stored_at clusters place.0 ≡ Some c) × (c.parts ≢ [])
+part_ordered level clusters place part there = (
+  there.0,
+  seen_is_stored level clusters place.0 there.0 ((stands_seen level clusters place.0 there.0).0 there.1),
+  λ none. none_in_empty part (subst (λ (ps : List Part). Contains ps part) none (
+    place.1,
+    slice_get_within there.0.parts place.1 part there.2,
+    get_or_from_slice_get there.0.parts place.1 part part there.2,
+  )),
+)
+
 module _ (w : ℕ) (shelf : Shelf) (order : IsInOrder w shelf) (level : Level) where
   stands : (n : ℕ) (c : Cluster) → seen_at level shelf.store.clusters n ≡ Some c → Stands level shelf.store.clusters n c
   stands n c is = (stands_seen level shelf.store.clusters n c).1 is
@@ -101,7 +115,7 @@ module _ (w : ℕ) (shelf : Shelf) (order : IsInOrder w shelf) (level : Level) w
     -- an ancestor of a name of the cluster is one of its names
     above_here : (m : ℕ) → is_ancestor c.graph m id ≡ true → Contains c.names m
     above_here m up =
-        let whole : IsCluster (64 * w) c = (indexed_at w shelf order level).whole number c is in
+        let whole = ((indexed_at w shelf order level).whole number c is).connected in
         (whole.members m).0 (whole.order.among m id up).0
 
     cover_out : (a : ℕ) → IsCover c.graph a id → IsCover (graph_of (view_of level shelf)) a id

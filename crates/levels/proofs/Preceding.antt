@@ -1,9 +1,8 @@
 -- Which of two entries of a list stands first, among those that pass a test and among what is made of them.
-use Rattle.std.proofs.Common.{◌≡◌, Bool, true, false, cond, List, [], ◌∷◌, ◌++◌, map, Contains, inl, inr, sym, ap, ◌∙◌, subst}
-use Rattle.std.proofs.lemmas.List.{map-append}
-use Rattle.std.proofs.lemmas.List.Elements.{Contains-append_left, Contains-append_right, filter-append}
+use Rattle.std.proofs.Common.{◌≡◌, Bool, true, false, cond, List, [], ◌∷◌, map, Contains, inl, inr, sym, ap, ◌∙◌, subst}
+use Rattle.std.proofs.lemmas.List.Elements.{Contains-append_left, Contains-append_right}
 use Rattle.std.specs.List.{filter}
-use Rattle.lists.proofs.Entries.{Contains-head, Contains-later, Contains-cases, Contains-splits, Contains-filter, filter-Contains, Contains-map, map-Contains, first_of, rest_of, none_in_empty}
+use Rattle.lists.proofs.Entries.{Contains-head, Contains-cases, Contains-splits, filter-Contains, map-Contains, first_of, rest_of, none_in_empty}
 use Rattle.graphs.specs.Merges.{Precedes}
 use Rattle.graphs.proofs.MergeLemmas.{precedes_later}
 

@@ -1,12 +1,11 @@
 -- A shelf of which clusters went out and others came in: the numbers of names, and what was left of the store.
-use Rattle.std.proofs.Common.{◌≡◌, ◌≢◌, ◌==◌, ℕ, ◌+◌, ◌-◌, ◌*◌, ◌<◌, ◌≤◌, Bool, true, false, cond, if◌then◌else◌, nat_eq, List, [], ◌∷◌, ◌++◌, length, get_or, drop, Contains, Option, Some, None, is_some, IsSome, inl, inr, ◌⊎◌, refl, sym, ap, ◌∙◌, subst, subst₂, arith, eqb-true, length-append, length-drop, slice_index_or, take}
-use Rattle.std.specs.Prelude.{slice_get, slice_index, option_to_list, IfSome, sum_by}
+use Rattle.std.proofs.Common.{◌≡◌, ◌==◌, ℕ, ◌+◌, ◌-◌, ◌*◌, ◌<◌, ◌≤◌, Bool, true, false, if◌then◌else◌, List, [], ◌∷◌, ◌++◌, length, get_or, drop, Contains, Option, Some, None, is_some, inl, inr, refl, sym, ap, ◌∙◌, subst, subst₂, arith, eqb-true, length-append, length-drop, slice_index_or, take}
+use Rattle.std.specs.Prelude.{slice_get, slice_index, option_to_list, IfSome}
 use Rattle.std.specs.List.{AllPairs}
 use Rattle.std.proofs.lemmas.Bool.{cases_eq, cases_lt}
 use Rattle.std.proofs.lemmas.List.{append-nil, get_or-drop, get_or_append_left, get_or_default, get_or_push, take_more}
-use Rattle.std.proofs.lemmas.List.Sums.{sum_by-append}
 use Rattle.std.proofs.lemmas.List.Elements.{Contains-append_left, Contains-push, Contains-push_cases}
-use Rattle.std.proofs.lemmas.Option.{none-some, same_Some, slice_get-get_or}
+use Rattle.std.proofs.lemmas.Option.{slice_get-get_or}
 use Rattle.std.specs.FinMap as finmap
 use Rattle.lists.specs.Distinct.{AreDistinct}
 use Rattle.lists.proofs.Entries.{none_in_empty}
@@ -22,6 +21,8 @@ use Rattle.staging.specs.Maps.{Maps, top_of}
 use Rattle.levels.specs.Shelves.{AllHave, IsInOrder, seen_at, stored_at}
 use Rattle.levels.specs.Tops.{HasFront, IsMade, fresh_from}
 use Rattle.levels.specs.Views.{Numbers}
+use Rattle.graph_model.specs.declared.names.Limits.{Limits}
+use Rattle.record.specs.Records.{IsFitted}
 use Rattle.levels.proofs.Calls.{Turns, order_shifted, shelf_of, shifted}
 use Rattle.levels.proofs.Making.{Shifts, shifts}
 use Rattle.levels.proofs.Pointing.{drop_here, drop_other, names_in}
@@ -232,23 +233,24 @@ points_all most kept outs made None rest (Some c) gone olds old lost mid new t =
 points_all most kept outs made (Some k) rest None gone olds old lost mid new t =
     absurd (omega (arith, t.count, t.counts, length-append made (k ∷ []), length-append rest []))
 
-module _ (w kept : ℕ) (staged : Bool) (outs made : List ℕ) (number : Option ℕ) (rest : List Cluster) (last : Option Cluster) (gone : List ℕ)
+module _ (w kept : ℕ) (limits : Limits) (staged : Bool) (outs made : List ℕ) (number : Option ℕ) (rest : List Cluster) (last : Option Cluster) (gone : List ℕ)
     (olds : List Cluster) (a b : Maps ℕ) (lost mid : Numbers) (s t : Store) (turns : Turns a b) (is : staged ≡ is_some a.top)
     (changes : TopChanges staged outs made number rest last s.clusters t.clusters) (taken : AreAt (seen_at Top s.clusters) outs olds)
     (are : AreTurned (64 * w) kept outs made number rest last gone olds (top_of a) lost mid (top_of b)) where
-  shift : Shifts staged outs (made ++ option_to_list number) (rest ++ option_to_list last) (shelf_of a s) (shelf_of b t)
-  shift = shifted staged outs (made ++ option_to_list number) (rest ++ option_to_list last) a b s t turns is changes.exchanged
+  shift : Shifts staged outs (made ++ option_to_list number) (rest ++ option_to_list last) (shelf_of limits a s) (shelf_of limits b t)
+  shift = shifted limits staged outs (made ++ option_to_list number) (rest ++ option_to_list last) a b s t turns is changes.exchanged
 
-  pub is_made : IsMade w outs made number rest last gone (shelf_of a s) (shelf_of b t)
+  pub is_made : IsMade w outs made number rest last gone (shelf_of limits a s) (shelf_of limits b t)
   is_made = record {
     olds = olds;
-    rebuilds = shifts w staged outs (made ++ option_to_list number) olds (rest ++ option_to_list last) gone (shelf_of a s) (shelf_of b t) shift taken
+    rebuilds = shifts w staged outs (made ++ option_to_list number) olds (rest ++ option_to_list last) gone (shelf_of limits a s) (shelf_of limits b t) shift taken
         (points_all (64 * w) kept outs made number rest last gone olds (top_of a) lost mid (top_of b) are) are.covers;
     count = changes.count;
   }
 
-  pub order_made : IsInOrder w (shelf_of a s) → IsStore (64 * w) t → IsInOrder w (shelf_of b t)
+  pub order_made : IsInOrder w (shelf_of limits a s)
+      → ((c : Cluster) → Contains (rest ++ option_to_list last) c → IsFitted (64 * w) limits c) → IsStore (64 * w) t → IsInOrder w (shelf_of limits b t)
   unfolding is_made
-  order_made order store =
-      order_shifted w staged outs (made ++ option_to_list number) olds (rest ++ option_to_list last) gone (shelf_of a s) (shelf_of b t) order shift
-      is_made.rebuilds store
+  order_made order fitted store =
+      order_shifted w staged outs (made ++ option_to_list number) olds (rest ++ option_to_list last) gone (shelf_of limits a s) (shelf_of limits b t) order shift
+      is_made.rebuilds fitted store

@@ -1,5 +1,5 @@
 -- A level of which some clusters went out and others came in: its numbers are right again, and what its graph is.
-use Rattle.std.proofs.Common.{◌≡◌, ℕ, List, Contains, Some, inl, inr, sym, ap, ◌∙◌, subst}
+use Rattle.std.proofs.Common.{◌≡◌, ℕ, List, Contains, Some, inl, inr, ◌⊎◌, sym, ap, ◌∙◌, subst}
 use Rattle.std.specs.Prelude.{slice_index}
 use Rattle.std.proofs.lemmas.Option.{none-some, same_Some}
 use Rattle.std.specs.FinMap as finmap
@@ -67,6 +67,13 @@ module _ (most : ℕ) (outs made : List ℕ) (olds news : List Cluster) (gone : 
     | inr none ↦ none-some n (sym none ∙ indexed.listed n id c is here)
   ]
 
+  -- a cluster came in, or was there
+  pub came : (n : ℕ) (c : Cluster) → new.at n ≡ Some c → Contains news c ⊎ (old.at n ≡ Some c)
+  came n c is = elim (told_number made n) [
+    | inl one ↦ inl (found_of new.at made news n c r.exchanges.stand one is).3
+    | inr free ↦ inr (stayed n c free is).1
+  ]
+
   pub indexed_rebuilt : IsIndexed most new
   indexed_rebuilt = record {
     stands = λ id n is. elim (decide_named news id) [
@@ -85,10 +92,7 @@ module _ (most : ℕ) (outs made : List ℕ) (olds news : List Cluster) (gone : 
           r.points.others id (not_new n id c was.0 was.1 here) (λ lost. not_named n id c was.0 was.1 here (r.covers.lose id lost).0)
           ∙ indexed.listed n id c was.1 here
     ];
-    whole = λ n c is. elim (told_number made n) [
-      | inl one ↦ r.covers.whole c (found_of new.at made news n c r.exchanges.stand one is).3
-      | inr free ↦ indexed.whole n c (stayed n c free is).1
-    ];
+    whole = λ n c is. elim (came n c is) [ inl new ↦ r.covers.whole c new | inr was ↦ indexed.whole n c was ];
   }
 
   pub is_rebuilt : IsRebuilt olds news gone (graph_of old) (graph_of new)

@@ -1,15 +1,15 @@
 -- The rings are right again after a change of the top level of a shelf.
-use Rattle.std.proofs.Common.{◌≡◌, ◌≤◌, ℕ, ◌*◌, List, [], ◌∷◌, ◌++◌, length, take, drop, Contains, Option, Some, None, IsSome, is_some, inl, inr, refl, sym, ap, ◌∙◌, subst, subst₂, arith, option_to_list, length-append}
-use Rattle.std.specs.Prelude.{slice_get, slice_index, IfSome}
+use Rattle.std.proofs.Common.{◌≡◌, ◌≤◌, ℕ, ◌*◌, List, [], ◌∷◌, ◌++◌, length, take, drop, Contains, Option, Some, None, IsSome, is_some, inl, inr, refl, sym, ap, ◌∙◌, subst, arith, option_to_list}
+use Rattle.std.specs.Prelude.{slice_index, IfSome}
 use Rattle.std.specs.List.{AllPairs}
 use Rattle.std.proofs.lemmas.List.{get_or_default, get_or-take, length-drop, length-take, take-append-drop}
 use Rattle.std.proofs.lemmas.List.Elements.{Contains-append_left, Contains-append_right}
-use Rattle.std.proofs.lemmas.Option.{none-some, same_Some}
 use Rattle.lists.specs.Distinct.{AreDistinct}
 use Rattle.lists.proofs.Distinct.{distinct_apart}
 use Rattle.lists.proofs.Entries.{Contains-head}
-use Rattle.graphs.specs.declared.names.Level.TheVariants.{Main, Top}
-use Rattle.cluster.specs.Clusters.{Cluster, AreApart, IsCluster}
+use Rattle.graphs.specs.declared.names.Level.TheVariants.{Top}
+use Rattle.cluster.specs.Clusters.{Cluster, AreApart}
+use Rattle.record.specs.Records.{IsRecord}
 use Rattle.name_book.specs.Books.{IsNamed}
 use Rattle.name_book.specs.Calls.{GathersMain, Touches}
 use Rattle.name_book.proofs.Named.{named-same}
@@ -129,11 +129,11 @@ module _ (w : ℕ) (outs made : List ℕ) (number : Option ℕ) (rest : List Clu
   last_in c is_c =
       subst (λ o. Contains (rest ++ option_to_list o) c) (sym is_c) (Contains-append_right rest (c ∷ []) c (Contains-head c []))
 
-  whole_last : (c : Cluster) → last ≡ Some c → IsCluster (64 * w) c
+  whole_last : (c : Cluster) → last ≡ Some c → IsRecord (64 * w) c
   whole_last c is_c = is.rebuilds.top.covers.whole c (last_in c is_c)
 
   once : (c : Cluster) → last ≡ Some c → Contains (drop kept c.names) (slice_index c.names 0) → ⊥
-  once c is_c = let low = kept_low c is_c in head_once c.names kept (whole_last c is_c).once low.0 low.1
+  once c is_c = let low = kept_low c is_c in head_once c.names kept (whole_last c is_c).connected.once low.0 low.1
 
   -- ---- the rings
 

@@ -1,5 +1,5 @@
 -- The rings follow a change where both levels are one: names go, what came in is parted off, and the last of it gathers at its first names.
-use Rattle.std.proofs.Common.{◌≡◌, ◌⊎◌, ◌↔◌, ◌<◌, ◌≤◌, ℕ, List, [], ◌∷◌, ◌++◌, length, take, drop, get_or, Contains, Option, Some, None, inl, inr, refl, sym, ap, ◌∙◌, subst, arith, option_to_list}
+use Rattle.std.proofs.Common.{◌≡◌, ◌⊎◌, ◌↔◌, ◌<◌, ◌≤◌, ℕ, List, [], ◌∷◌, ◌++◌, take, drop, Contains, Option, Some, None, inl, inr, refl, sym, ap, ◌∙◌, subst, arith, option_to_list}
 use Rattle.std.specs.Prelude.{slice_get, slice_index, IfSome}
 use Rattle.std.specs.List.{AllPairs}
 use Rattle.std.specs.FinMap as finmap
@@ -11,7 +11,7 @@ use Rattle.lists.proofs.Told.{told_number}
 use Rattle.cluster.specs.Clusters.{Cluster, AreApart}
 use Rattle.name_book.specs.Calls.{ComesToMain}
 use Rattle.name_book.proofs.Named.{named-same}
-use Rattle.name_book.proofs.Rings.{rung-linked, rung-turned}
+use Rattle.name_book.proofs.Rings.{rung-linked}
 use Rattle.levels.specs.Changes.{Rebuilds}
 use Rattle.levels.specs.Changes.{IsNamed as HasName}
 use Rattle.levels.specs.Rings.{Forgets, JoinsLast, Ringed, AreNamedOnce, AreRight, IsMarked, ShareMain}

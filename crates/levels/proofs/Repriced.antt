@@ -1,6 +1,6 @@
 -- A name's other fee, seen from the levels.
-use Rattle.std.proofs.Common.{◌≡◌, ℕ, ℤ, ◌+◌, ◌≤◌, true, ◌&&◌, List, length, Option, Some, None, is_some, inl, inr, ◌⊎◌, refl, sym, ap, arith, ◌∙◌, subst, subst₂, Result, Ok, Err, OnOk, OnErr, IsSome}
-use Rattle.std.specs.Prelude.{unwrap_or}
+use Rattle.std.proofs.Common.{◌≡◌, ℕ, ℤ, ◌+◌, ◌≤◌, Bool, true, ◌&&◌, List, Option, Some, None, is_some, inl, inr, ◌⊎◌, refl, sym, ap, ap₂, arith, ◌∙◌, subst, subst₂, Result, Ok, Err, OnOk, OnErr, IsSome}
+use Rattle.std.specs.Prelude.{cond, unwrap_or}
 use Rattle.std.proofs.lemmas.Result.{on_ok_weaker, on_err_weaker}
 use Rattle.std.specs.FinMap as finmap
 use Rattle.fee_rate.specs.declared.rates.FeeRate.{FeeRate}
@@ -9,7 +9,9 @@ use Rattle.graphs.specs.Graphs.{Lists}
 use Rattle.graphs.specs.declared.names.Level.{Level}
 use Rattle.graphs.specs.declared.names.Level.TheVariants.{Main, Top}
 use Rattle.cluster.specs.Clusters.{Cluster}
-use Rattle.cluster.specs.Steps.{GrowsWithin, most_steps}
+use Rattle.cluster.specs.Steps.{GrowsWithin}
+use Rattle.graph_model.specs.declared.names.Limits.{Limits}
+use Rattle.record.specs.Steps.{most_steps_fit}
 use Rattle.levels.specs.Kept.{IsKept}
 use Rattle.levels.specs.Levels.{OneLevel, Levels, GrowsForFee, IsLive, SetsFeeIn, level_at, steps_where}
 use Rattle.levels.specs.Moves.{SetsFees}
@@ -62,32 +64,46 @@ module _ (w issued id : ℕ) (shelf : Shelf) (now : Levels) (order : IsInOrder w
 
   -- the most steps for a level, and none where it hasn't the name
   abbrev most_in : Level → List ℕ → ℕ
-  most_in level ids = steps_where (is_member (level_at now level).graph id) (length ids)
+  most_in level ids = steps_where (is_member (level_at now level).graph id) now.limits (level_at now level).graph ids
+
+  -- the orders take as many steps by the shelf
+  fits_same : (level : Level) (ids : List ℕ)
+      → most_steps_fit shelf.limits (graph_of (view_of level shelf)) ids ≡ most_steps_fit now.limits (level_at now level).graph ids
+  fits_same level ids =
+      ap₂ (λ (l : Limits) (g : Closure). most_steps_fit l g ids) (ap (λ (l : Levels). l.limits) view)
+      (sym (graph_is w issued shelf now order view level))
+
+  most_same : (level : Level) (ids : List ℕ)
+      → steps_where (is_some (finmap.get (numbers_at level shelf) id)) shelf.limits (graph_of (view_of level shelf)) ids ≡ most_in level ids
+  most_same level ids =
+      ap₂ (λ (b : Bool) (n : ℕ). cond b n 0) (sym (member_is w issued shelf now order view level id)) (fits_same level ids)
 
   -- without a staging the name has one number, and is in main
   module _ (before after : ℕ) (live : IsLive now id)
       (shared : finmap.get (numbers_at Main shelf) id ≡ finmap.get (numbers_at Top shelf) id → (ids : List ℕ)
-      → Lists (AreLinked (graph_of (view_of Main shelf)) id) ids → GrowsWithin (most_steps (length ids)) before after) where
+      → Lists (AreLinked (graph_of (view_of Main shelf)) id) ids
+      → GrowsWithin (most_steps_fit shelf.limits (graph_of (view_of Main shelf)) ids) before after) where
     told_alone : now.staging ≡ None → (ids : List ℕ) → Lists (AreLinked now.main.graph id) ids
         → GrowsWithin (most_in Main ids) before after
     told_alone none ids lists =
         let one = ap (λ o. finmap.get (unwrap_or o shelf.main) id) (sym (shelf_alone shelf issued now view none)) in
         let here : IsSome (finmap.get (numbers_at Main shelf) id) = elim (live_numbered live) [ inl main ↦ main | inr top ↦ ap is_some one ∙ top ] in
-        subst (λ made. GrowsWithin (steps_where made (length ids)) before after)
-        (sym (member_is w issued shelf now order view Main id ∙ here)) (shared one ids (linked_in Main ids lists))
+        subst (λ made. GrowsWithin (steps_where made now.limits now.main.graph ids) before after)
+        (sym (member_is w issued shelf now order view Main id ∙ here))
+        (subst (λ n. GrowsWithin n before after) (fits_same Main ids) (shared one ids (linked_in Main ids lists)))
 
     pub told_fee : before ≤ after → IsCounted id shelf before after → GrowsForFee id before after now
     told_fee grew counted mains tops first second = by now.staging refl
       where
         by : (staging : Option OneLevel) → now.staging ≡ staging
-            → GrowsWithin (most_in Main mains + steps_where (is_some staging && is_member (level_at now Top).graph id) (length tops)) before after
+            → GrowsWithin (most_in Main mains
+            + steps_where (is_some staging && is_member (level_at now Top).graph id) now.limits (level_at now Top).graph tops) before after
         by None none =
             let one = told_alone none mains first in
             let few : after ≤ before + (most_in Main mains + 0) = omega (arith, one.few) in record { grew = one.grew; few = few }
         by (Some top) some =
             let sum : after ≤ before + most_in Main mains + most_in Top tops =
-            subst₂ (λ m n. after ≤ before + steps_where m (length mains) + steps_where n (length tops))
-            (sym (member_is w issued shelf now order view Main id)) (sym (member_is w issued shelf now order view Top id))
+            subst₂ (λ m n. after ≤ before + m + n) (most_same Main mains) (most_same Top tops)
             (counted mains tops (linked_in Main mains first) (linked_in Top tops second)) in
             let few : after ≤ before + (most_in Main mains + most_in Top tops) = omega (arith, sum) in record { grew = grew; few = few }
 

@@ -50,7 +50,7 @@ fee_away c d g h r names id fee held sets other = one_away c (d ∷ []) [] g h r
 module _ (w : ℕ) (old new : Shelf) (before : IsInOrder w old) (after : IsInOrder w new) (id : ℕ) (fee : ℤ) (sets : SetsFees w id fee old new) where
   same_numbers : (level : Level) → numbers_at level new ≡ numbers_at level old
   same_numbers Main = sets.numbers
-  same_numbers Top = λ i. numbers_at Top (record { main = sets.numbers i; staging = sets.staging i; store = new.store })
+  same_numbers Top = λ i. numbers_at Top (record { limits = new.limits; main = sets.numbers i; staging = sets.staging i; store = new.store })
 
   sets_at : (level : Level) → SetsFeeAt w id fee level old new
   sets_at Main = sets.main

@@ -1,6 +1,5 @@
 -- What is left of components without some names, told cluster by cluster.
-use Rattle.std.proofs.Common.{◌≡◌, ℕ, ◌+◌, ◌≤◌, Bool, true, false, not, List, [], ◌∷◌, ◌++◌, cond, length, map, flat_map, Contains, inl, inr, ◌⊎◌, ◌↔◌, refl, sym, ap, ◌∙◌, subst, arith}
-use Rattle.std.specs.Prelude.{sum_by}
+use Rattle.std.proofs.Common.{◌≡◌, ℕ, ◌+◌, ◌≤◌, Bool, true, false, not, List, [], ◌∷◌, ◌++◌, cond, length, flat_map, Contains, inl, inr, ◌↔◌, refl, sym, ap, ◌∙◌, arith}
 use Rattle.std.specs.List.{filter, list_any}
 use Rattle.std.proofs.lemmas.List.Elements.{Contains-append_left, Contains-append_right, Contains-append_cases}
 use Rattle.std.proofs.lemmas.List.Folds.{Any-from_list_any, list_any_at}
@@ -13,11 +12,15 @@ use Rattle.lists.proofs.Distinct.{distinct_joined, distinct_apart, distinct-appe
 use Rattle.lists.proofs.Entries.{Contains-filter, filter-Contains}
 use Rattle.lists.proofs.Flats.{flat_has, flat_of}
 use Rattle.lists.proofs.Walks.{Walk-first, Walk-keeps, Walk-map}
-use Rattle.graphs.specs.Closures.{Closure, IsOrder, is_member, is_ancestor, IsRelated, AreLinked}
+use Rattle.graphs.specs.Closures.{Closure, IsOrder, is_member, is_ancestor, rate_of, IsRelated, AreLinked}
 use Rattle.graphs.proofs.ClosingLemmas.{linked_back, related_back}
 use Rattle.cluster.specs.Changes.{AreComponents, AreNearLeft, IsLeft}
-use Rattle.cluster.specs.Clusters.{Cluster, IsCluster}
-use Rattle.cluster.specs.Steps.{most_steps, most_steps_of}
+use Rattle.cluster.specs.Clusters.{Cluster}
+use Rattle.record.specs.Records.{IsConnected}
+use Rattle.record.specs.Steps.{most_steps_fit, most_steps_fit_of, most_steps_within}
+use Rattle.graph_model.specs.declared.names.Limits.{Limits}
+use Rattle.fee_rate.specs.declared.rates.FeeRate.{FeeRate}
+use Rattle.arithmetic.proofs.Sums.{sum_by_along}
 use Rattle.levels.specs.Lefts.{AreRests, DropsWithin}
 use Rattle.levels.specs.Views.{IsClusterOf}
 
@@ -149,14 +152,14 @@ module _ (g : Closure) (test : ℕ → Bool) (closed : (a b : ℕ) → IsRelated
         rests.alone ids (filter-Contains misses lists ids kept).1 a b a_in (more a b (others_out ids kept a a_in) near);
   }
 
-  pub both_steps : most_steps_of lists ≡ most_steps_of mine + most_steps_of others
-  both_steps =
-      sym (sum_by-IsPermutation (λ (ids : List ℕ). most_steps (length ids)) lists (mine ++ others) (IsPermutation-filter_both holds misses (λ _. refl) lists))
-      ∙ sum_by-append (λ (ids : List ℕ). most_steps (length ids)) mine others
+  pub both_steps : (limits : Limits) → most_steps_fit_of limits g lists ≡ most_steps_fit_of limits g mine + most_steps_fit_of limits g others
+  both_steps limits =
+      sym (sum_by-IsPermutation (λ (ids : List ℕ). most_steps_fit limits g ids) lists (mine ++ others) (IsPermutation-filter_both holds misses (λ _. refl) lists))
+      ∙ sum_by-append (λ (ids : List ℕ). most_steps_fit limits g ids) mine others
 
 -- ---- the lists of one cluster
 
-module _ (most : ℕ) (g : Closure) (whole_order : IsOrder (is_member g) (is_ancestor g)) (c : Cluster) (cluster : IsCluster most c)
+module _ (g : Closure) (whole_order : IsOrder (is_member g) (is_ancestor g)) (c : Cluster) (cluster : IsConnected c)
     (of : (id : ℕ) → Contains c.names id → IsClusterOf g id c) where
   pub related_in : (a b : ℕ) → IsRelated g a b → is_member c.graph a ≡ true → is_member c.graph b ≡ true
   related_in a b related member = (cluster.members b).1 ((of a ((cluster.members a).0 member)).alone b (b ∷ [], (related, refl)))
@@ -236,28 +239,37 @@ module _ (most : ℕ) (g : Closure) (whole_order : IsOrder (is_member g) (is_anc
       alone = λ ids kept a b a_in near. rests.alone ids (own_listed ids kept) a b a_in (near_to a b (own_in ids kept a a_in) near);
     }
 
+    -- the orders of these take as many steps by the sizes of the cluster as by those of the whole
+    pub as_many : (limits : Limits) → most_steps_fit_of limits c.graph own ≡ most_steps_fit_of limits g own
+    as_many limits =
+        sum_by_along (λ (ids : List ℕ). most_steps_fit limits c.graph ids) (λ (ids : List ℕ). most_steps_fit limits g ids) own
+        (λ ids kept. ap (most_steps_within limits (length ids))
+        (sum_by_along (λ (id : ℕ). (rate_of c.graph id).size) (λ (id : ℕ). (rate_of g id).size) ids (λ id here.
+        ap (λ (r : FeeRate). r.size) (sym ((of id (own_in ids kept id here)).rates id (own_in ids kept id here))))))
+
   -- a count that grew for the components before, and then for those of the cluster
-  pub within_both : (done run : List ℕ) → ((id : ℕ) → Contains run id → Contains c.names id)
-      → ((id : ℕ) → Contains done id → Contains c.names id → ⊥) → ((id : ℕ) × Contains run id) → (before mid after : ℕ) → DropsWithin done g before mid
-      → mid ≤ after → ((lists : List (List ℕ)) → AreComponents c.graph run lists → after ≤ mid + most_steps_of lists)
-      → DropsWithin (done ++ run) g before after
-  within_both done run inside outside (first, first_in) before mid after early grew few = record {
+  pub within_both : (limits : Limits) (done run : List ℕ) → ((id : ℕ) → Contains run id → Contains c.names id)
+      → ((id : ℕ) → Contains done id → Contains c.names id → ⊥) → ((id : ℕ) × Contains run id) → (before mid after : ℕ) → DropsWithin limits done g before mid
+      → mid ≤ after → ((lists : List (List ℕ)) → AreComponents c.graph run lists → after ≤ mid + most_steps_fit_of limits c.graph lists)
+      → DropsWithin limits (done ++ run) g before after
+  within_both limits done run inside outside (first, first_in) before mid after early grew few = record {
     grew = let was = early.grew in omega (arith, was, grew);
     few = λ lists rests.
         let all_in : (id : ℕ) → Contains run id → is_member c.graph id ≡ true = λ id here. (cluster.members id).1 (inside id here) in
         let none_in : (id : ℕ) → Contains done id → is_member c.graph id ≡ true → ⊥ = λ id here member. outside id here ((cluster.members id).0 member) in
         let last = few _ (components done run all_in none_in first first_in lists rests) in
         let was = early.few _ (rests_before g (is_member c.graph) related_in done run all_in none_in lists rests) in
-        let sum = both_steps g (is_member c.graph) related_in done run all_in none_in lists rests in
-        omega (arith, last, was, sum);
+        let sum = both_steps g (is_member c.graph) related_in done run all_in none_in lists rests limits in
+        let same = as_many done run all_in none_in first first_in lists rests limits in
+        omega (arith, last, was, sum, same);
   }
 
 -- ---- a count that grew
 
 -- the names in another order, or told more than once
-pub within_same : (xs ys : List ℕ) (g : Closure) (before after : ℕ) → ((id : ℕ) → Contains xs id ↔ Contains ys id) → DropsWithin xs g before after
-    → DropsWithin ys g before after
-within_same xs ys g before after same drops = record {
+pub within_same : (limits : Limits) (xs ys : List ℕ) (g : Closure) (before after : ℕ) → ((id : ℕ) → Contains xs id ↔ Contains ys id) → DropsWithin limits xs g before after
+    → DropsWithin limits ys g before after
+within_same limits xs ys g before after same drops = record {
   grew = drops.grew;
   few = λ lists rests. drops.few lists (record {
     once = rests.once;
@@ -276,13 +288,13 @@ within_same xs ys g before after same drops = record {
     near us vs into a b is = ((is.0.0, λ there. is.0.1 (into a there)), (is.1.0, λ there. is.1.1 (into b there)), is.2)
 
 -- some names of other components more
-pub within_more : (g : Closure) (test : ℕ → Bool) → ((a b : ℕ) → IsRelated g a b → test a ≡ true → test b ≡ true) → (done run : List ℕ)
+pub within_more : (limits : Limits) (g : Closure) (test : ℕ → Bool) → ((a b : ℕ) → IsRelated g a b → test a ≡ true → test b ≡ true) → (done run : List ℕ)
     → ((id : ℕ) → Contains run id → test id ≡ true) → ((id : ℕ) → Contains done id → test id ≡ true → ⊥) → (before after : ℕ)
-    → DropsWithin done g before after → DropsWithin (done ++ run) g before after
-within_more g test closed done run inside outside before after drops = record {
+    → DropsWithin limits done g before after → DropsWithin limits (done ++ run) g before after
+within_more limits g test closed done run inside outside before after drops = record {
   grew = drops.grew;
   few = λ lists rests.
       let was = drops.few _ (rests_before g test closed done run inside outside lists rests) in
-      let sum = both_steps g test closed done run inside outside lists rests in
+      let sum = both_steps g test closed done run inside outside lists rests limits in
       omega (arith, was, sum);
 }

@@ -1,18 +1,18 @@
 -- The next run of names of one cluster, as a loop goes over them by rising number.
-use Rattle.std.proofs.Common.{◌≡◌, ◌≢◌, ℕ, ◌+◌, ◌*◌, ◌<◌, ◌≤◌, List, [], ◌∷◌, ◌++◌, length, get_or, take, drop, map, All, Contains, Option, Some, inl, inr, refl, sym, ap, ◌∙◌, subst, arith}
+use Rattle.std.proofs.Common.{◌≡◌, ◌≢◌, ℕ, ◌+◌, ◌*◌, ◌<◌, ◌≤◌, List, ◌++◌, length, get_or, take, drop, map, All, Contains, Option, Some, sym, ap, ◌∙◌, subst, arith}
 use Rattle.std.specs.Prelude.{slice_index_or}
-use Rattle.std.specs.FinMap as finmap
 use Rattle.std.specs.List.{AllPairs}
-use Rattle.std.proofs.lemmas.List.{get_or_default, length-take-le, take-append-drop}
+use Rattle.std.proofs.lemmas.List.{length-take-le, take-append-drop}
 use Rattle.std.proofs.lemmas.List.Elements.{All-contains, Contains-append_left, Contains-append_right}
 use Rattle.graphs.specs.declared.names.Level.TheVariants.{Top}
 use Rattle.cluster.specs.Changes.{AreComponents, IsSplit}
-use Rattle.cluster.specs.Clusters.{Cluster, IsCluster}
-use Rattle.cluster.specs.Steps.{most_steps_of}
+use Rattle.cluster.specs.Clusters.{Cluster}
+use Rattle.record.specs.Records.{IsFitted}
+use Rattle.record.specs.Steps.{most_steps_fit_of}
 use Rattle.levels.specs.Lefts.{AreListed, DropsWithin, IsRun, Takes}
-use Rattle.levels.specs.Shelves.{IsInOrder, Shelf, numbers_at, seen_at, view_of}
+use Rattle.levels.specs.Shelves.{IsInOrder, Shelf, seen_at, view_of}
 use Rattle.levels.specs.Views.{graph_of}
-use Rattle.levels.proofs.Partway.{IsPartway, later_away, names_of, one_more, pairs_back, run_cluster, steps_then}
+use Rattle.levels.proofs.Partway.{IsPartway, later_away, one_more, pairs_back, run_cluster, steps_then}
 
 module _ (w : ℕ) (shelf : Shelf) (order : IsInOrder w shelf) (ids : List ℕ) (listed : List (ℕ × ℕ)) (are : AreListed shelf ids listed) (outs : List ℕ)
     (rest : List Cluster) (last : Option Cluster) (coming : List (ℕ × ℕ)) (before mid : ℕ)
@@ -54,9 +54,9 @@ module _ (w : ℕ) (shelf : Shelf) (order : IsInOrder w shelf) (ids : List ℕ) 
   partway_cut = subst (λ (es : List (ℕ × ℕ)). IsPartway w shelf listed es outs rest last before mid) cut partway
 
   module _ (after : ℕ) (grew : mid ≤ after) (few : (c : Cluster) (lists : List (List ℕ)) → seen_at Top shelf.store.clusters number ≡ Some c
-      → AreComponents c.graph (map (λ e. e.1) run) lists → after ≤ mid + most_steps_of lists) where
+      → AreComponents c.graph (map (λ e. e.1) run) lists → after ≤ mid + most_steps_fit_of shelf.limits c.graph lists) where
     -- where memory runs out
-    pub next_steps : DropsWithin ids (graph_of (view_of Top shelf)) before after
+    pub next_steps : DropsWithin shelf.limits ids (graph_of (view_of Top shelf)) before after
     next_steps =
         let (c, at) = run_cluster w shelf order number run next_run in
         steps_then w shelf order ids listed are outs rest last run later before mid after partway_cut number next_run away c at grew
@@ -64,7 +64,7 @@ module _ (w : ℕ) (shelf : Shelf) (order : IsInOrder w shelf) (ids : List ℕ) 
 
     pub next_partway : (outs' : List ℕ) (rest' : List Cluster) (last' : Option Cluster)
         → ((c : Cluster) × (pieces : List Cluster) × (seen_at Top shelf.store.clusters number ≡ Some c) × IsSplit c.graph (map (λ e. e.1) run) pieces
-        × All (IsCluster (64 * w)) pieces × Takes number pieces outs rest last outs' rest' last')
+        × All (IsFitted (64 * w) shelf.limits) pieces × Takes number pieces outs rest last outs' rest' last')
         → IsPartway w shelf listed later outs' rest' last' before after
     next_partway outs' rest' last' (c, pieces, at, split, whole, takes) =
         one_more w shelf order ids listed are outs rest last run later before mid after partway_cut number next_run away c at pieces split whole

@@ -1,24 +1,22 @@
 -- What the clusters that go out, and those that come in, say of a level's graph.
-use Rattle.std.proofs.Common.{◌≡◌, ℕ, Bool, true, false, not, ◌&&◌, ◌||◌, nat_eq, List, [], ◌∷◌, Contains, inl, inr, ◌⊎◌, ◌↔◌, refl, sym, ap, ap₂, ◌∙◌, subst, eq-eqb, ne_eqb, true≢false}
-use Rattle.std.proofs.lemmas.Bool.{cases_eq, and_from, and_parts, and_right, or_cases, or_left, or_right, false_from_ne_true}
+use Rattle.std.proofs.Common.{◌≡◌, ℕ, true, false, not, ◌&&◌, ◌||◌, nat_eq, List, [], ◌∷◌, Contains, inl, inr, refl, sym, ap, ◌∙◌, subst, eq-eqb, ne_eqb, true≢false}
+use Rattle.std.proofs.lemmas.Bool.{and_from, and_parts, and_right, or_cases, or_left, or_right, false_from_ne_true}
 use Rattle.std.specs.FinMap as finmap
 use Rattle.lists.proofs.Cases.{or_false, same_test}
 use Rattle.lists.proofs.Entries.{Contains-head, Contains-cases, none_in_empty}
-use Rattle.lists.proofs.Told.{told_number}
 use Rattle.graphs.specs.Closures.{Closure, is_member, is_ancestor, rate_of, AddsPair, DropsPlace}
-use Rattle.cluster.specs.Clusters.{Cluster, IsCluster}
+use Rattle.cluster.specs.Clusters.{Cluster}
+use Rattle.record.specs.Records.{IsConnected}
 use Rattle.cluster.specs.Changes.{IsAncestorIn}
 use Rattle.levels.specs.Changes.{IsNamed, IsRebuilt}
 use Rattle.levels.specs.Levels.{LosesNames}
 use Rattle.levels.specs.Moves.{AddsPairIn, DropsIn}
-use Rattle.levels.specs.Stays.{IsSameComponent}
-use Rattle.levels.specs.Views.{IsClusterOf}
 use Rattle.levels.proofs.Closing.{member_same, rate_same, above_same, member_absent, above_absent, below_in}
 use Rattle.levels.proofs.Lookups.{decide_named}
 use Rattle.levels.proofs.Staying.{AreAway, whole_before}
 
-module _ (most : ℕ) (olds news : List Cluster) (gone : List ℕ) (g h : Closure) (r : IsRebuilt olds news gone g h)
-    (was_whole : (c : Cluster) → Contains olds c → IsCluster most c) (whole : (c : Cluster) → Contains news c → IsCluster most c) where
+module _ (olds news : List Cluster) (gone : List ℕ) (g h : Closure) (r : IsRebuilt olds news gone g h)
+    (was_whole : (c : Cluster) → Contains olds c → IsConnected c) (whole : (c : Cluster) → Contains news c → IsConnected c) where
   pub old_up : (a d : ℕ) → IsAncestorIn olds a d → is_ancestor g a d ≡ true
   old_up a d said =
       let c = was_whole said.0 said.1 in

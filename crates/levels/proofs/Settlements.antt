@@ -1,19 +1,19 @@
 -- Where a staging is closed: the rings of the level that stays, one cluster after the other.
 use Rattle.std.proofs.Common.{◌≡◌, ◌≢◌, ◌⊎◌, ◌↔◌, ℕ, true, ◌*◌, ◌+◌, ◌≤◌, List, [], ◌∷◌, ◌++◌, length, Contains, Some, None, is_some, IsSome, refl, sym, ap, ◌∙◌, subst, inl, inr, arith, length-append}
 use Rattle.std.proofs.lemmas.List.Elements.{Contains-append_cases}
-use Rattle.std.proofs.lemmas.Option.{none-some, same_Some}
+use Rattle.std.proofs.lemmas.Option.{none-some}
 use Rattle.std.specs.FinMap as finmap
 use Rattle.std.specs.FinSet as set
 use Rattle.lists.specs.Distinct.{AreDistinct}
 use Rattle.lists.proofs.Distinct.{distinct_push}
-use Rattle.lists.proofs.Entries.{Contains-head, Contains-one, none_in_empty}
+use Rattle.lists.proofs.Entries.{Contains-one, none_in_empty}
 use Rattle.lists.proofs.Keys.{set_has}
 use Rattle.lists.proofs.Told.{told_number}
 use Rattle.graphs.specs.declared.names.Level.{Level}
 use Rattle.graphs.specs.declared.names.Level.TheVariants.{Main, Top}
 use Rattle.cluster.specs.Clusters.{Cluster}
 use Rattle.name_book.specs.Books.{IsNamed}
-use Rattle.name_book.specs.Calls.{ArePartedOff, Drops}
+use Rattle.name_book.specs.Calls.{Drops}
 use Rattle.name_book.proofs.Marks.{marked-named}
 use Rattle.name_book.proofs.Named.{named-same}
 use Rattle.name_book.proofs.Rings.{rung-itself}

@@ -1,5 +1,5 @@
 -- A shelf whose top level changed.
-use Rattle.std.proofs.Common.{◌≡◌, ℕ, ◌*◌, Bool, true, false, List, Option, Some, None, is_some, IsSome, inl, inr, ◌⊎◌, ◌↔◌, refl, sym, ap, ◌∙◌, subst, true≢false}
+use Rattle.std.proofs.Common.{◌≡◌, ℕ, ◌*◌, Bool, true, false, List, Contains, Option, Some, None, is_some, IsSome, inl, inr, ◌⊎◌, ◌↔◌, refl, sym, ap, ◌∙◌, subst, true≢false}
 use Rattle.std.specs.Prelude.{option_map, unwrap_or, cond}
 use Rattle.std.proofs.lemmas.Option.{none-some, same_Some}
 use Rattle.std.specs.FinMap as finmap
@@ -12,12 +12,15 @@ use Rattle.cluster_store.specs.Stores.{Stored, Numbered, Store, IsStore, parts_o
 use Rattle.cluster_store.specs.Laws.{Stands}
 use Rattle.cluster_store.proofs.Told.{parts_are_told_by_clusters}
 use Rattle.levels.specs.Levels.{level_at, with_top}
-use Rattle.levels.specs.Shelves.{AllHave, Shelf, IsInOrder, levels_of, one_of, seen_at, seen_in, view_of}
+use Rattle.graph_model.specs.declared.names.Limits.{Limits}
+use Rattle.graph_model.specs.Limits.{AreInRange, bounds_of}
+use Rattle.record.specs.Records.{IsFitted}
+use Rattle.levels.specs.Shelves.{AllHave, Shelf, IsInOrder, levels_of, one_of, seen_at, seen_in, stored_at, view_of}
 use Rattle.levels.specs.Tops.{TopRebuilds}
 use Rattle.levels.specs.Views.{View, IsIndexed, Numbers, graph_of}
-use Rattle.levels.proofs.Rebuilt.{indexed_rebuilt}
+use Rattle.levels.proofs.Rebuilt.{came, indexed_rebuilt}
 use Rattle.cluster_store.proofs.Seen.{seen_stored}
-use Rattle.levels.proofs.Seen.{both_seen}
+use Rattle.levels.proofs.Seen.{both_seen, seen_is_stored, stored_is_seen}
 
 -- two views are one where the numbers are the same, and the cluster under each number
 pub same_view : (a b : View) → b.numbers ≡ a.numbers → ((n : ℕ) → b.at n ≡ a.at n) → b ≡ a
@@ -48,12 +51,33 @@ module _ (shelf : Shelf) (none : shelf.staging ≡ None) (both : AllHave Both sh
 
 module _ (w : ℕ) (outs made : List ℕ) (olds news : List Cluster) (gone : List ℕ) (old new : Shelf) (order : IsInOrder w old)
     (r : TopRebuilds w outs made olds news gone old new)
+    (news_fitted : (c : Cluster) → Contains news c → IsFitted (64 * w) old.limits c)
     (both : new.staging ≡ None → AllHave Both new.store.clusters) (store : IsStore (64 * w) new.store) where
   top_indexed : IsIndexed (64 * w) (view_of Top new)
   top_indexed = indexed_rebuilt (64 * w) outs made olds news gone (view_of Top old) (view_of Top new) order.top r.top
 
   pub main_view : IsSome old.staging → view_of Main new ≡ view_of Main old
   main_view some = same_view (view_of Main old) (view_of Main new) (r.base some) (r.main some)
+
+  -- what stands in the top level came in, or was there, and so it is with main
+  top_fitted : (n : ℕ) (c : Cluster) → seen_at Top new.store.clusters n ≡ Some c → IsFitted (64 * w) old.limits c
+  top_fitted n c is = elim (came (64 * w) outs made olds news gone (view_of Top old) (view_of Top new) order.top r.top n c is) [
+    | inl here ↦ news_fitted c here
+    | inr was ↦ order.fitted n c (seen_is_stored Top old.store.clusters n c was)
+  ]
+
+  main_fitted : (n : ℕ) (c : Cluster) → seen_at Main new.store.clusters n ≡ Some c → IsFitted (64 * w) old.limits c
+  main_fitted n c is = elim (cases_staging old.staging) [
+    | inl none ↦
+        let all = both (none_of new.staging old.staging r.staged none) in
+        top_fitted n c (both_seen Top new.store.clusters all n ∙ sym (both_seen Main new.store.clusters all n) ∙ is)
+    | inr some ↦ order.fitted n c (seen_is_stored Main old.store.clusters n c (sym (r.main some n) ∙ is))
+  ]
+
+  fitted_changed : (n : ℕ) (c : Cluster) → stored_at new.store.clusters n ≡ Some c → IsFitted (64 * w) new.limits c
+  fitted_changed n c is =
+      subst (λ (l : Limits). IsFitted (64 * w) l c) (sym r.limits)
+      (elim (stored_is_seen new.store.clusters n c is) [ inl main ↦ main_fitted n c main | inr top ↦ top_fitted n c top ])
 
   pub order_changed : IsInOrder w new
   order_changed = record {
@@ -66,6 +90,8 @@ module _ (w : ℕ) (outs made : List ℕ) (olds news : List Cluster) (gone : Lis
       | inr some ↦ subst (IsIndexed (64 * w)) (sym (main_view some)) order.main
     ];
     top = top_indexed;
+    in_range = subst (λ (l : Limits). AreInRange (64 * w) (bounds_of l)) (sym r.limits) order.in_range;
+    fitted = fitted_changed;
     store = store;
     both = both;
   }
@@ -112,19 +138,19 @@ level_of_shelf Main shelf issued alike = refl
 level_of_shelf Top shelf issued alike = from shelf.staging alike
   where
     from : (o : Option Numbers) → (o ≡ None → one_of Main shelf ≡ one_of Top shelf)
-        → level_at (record { main = one_of Main shelf; staging = option_map (λ _. one_of Top shelf) o; issued = issued }) Top ≡ one_of Top shelf
+        → level_at (record { limits = shelf.limits; main = one_of Main shelf; staging = option_map (λ _. one_of Top shelf) o; issued = issued }) Top ≡ one_of Top shelf
     from None alike = alike refl
     from (Some m) alike = refl
 
 -- the levels of a shelf whose top level changed
-pub levels_changed : (old new : Shelf) (issued : ℕ) → is_some new.staging ≡ is_some old.staging → (IsSome old.staging → one_of Main new ≡ one_of Main old)
+pub levels_changed : (old new : Shelf) (issued : ℕ) → new.limits ≡ old.limits → is_some new.staging ≡ is_some old.staging → (IsSome old.staging → one_of Main new ≡ one_of Main old)
     → (old.staging ≡ None → one_of Main new ≡ one_of Top new) → levels_of new issued ≡ with_top (levels_of old issued) (one_of Top new)
-levels_changed old new issued same kept alike = from new.staging old.staging same kept alike
+levels_changed old new issued limits same kept alike = from new.staging old.staging same kept alike
   where
     from : (o p : Option Numbers) → is_some o ≡ is_some p → (IsSome p → one_of Main new ≡ one_of Main old) → (p ≡ None → one_of Main new ≡ one_of Top new)
-        → record { main = one_of Main new; staging = option_map (λ _. one_of Top new) o; issued = issued }
-        ≡ with_top (record { main = one_of Main old; staging = option_map (λ _. one_of Top old) p; issued = issued }) (one_of Top new)
-    from None None is kept alike = λ i. record { main = alike refl i; staging = None; issued = issued }
+        → record { limits = new.limits; main = one_of Main new; staging = option_map (λ _. one_of Top new) o; issued = issued }
+        ≡ with_top (record { limits = old.limits; main = one_of Main old; staging = option_map (λ _. one_of Top old) p; issued = issued }) (one_of Top new)
+    from None None is kept alike = λ i. record { limits = limits i; main = alike refl i; staging = None; issued = issued }
     from None (Some p) is kept alike = absurd (true≢false (sym is))
     from (Some o) None is kept alike = absurd (true≢false is)
-    from (Some o) (Some p) is kept alike = λ i. record { main = kept refl i; staging = Some (one_of Top new); issued = issued }
+    from (Some o) (Some p) is kept alike = λ i. record { limits = limits i; main = kept refl i; staging = Some (one_of Top new); issued = issued }

@@ -1,14 +1,13 @@
 -- Where the clusters of components that stay stand under their numbers still, a level keeps their parts. So it is where clusters are exchanged, and
 -- no component that stays has a name of those that go out.
-use Rattle.std.proofs.Common.{◌≡◌, ℕ, ◌*◌, List, [], ◌∷◌, ◌++◌, Contains, Some, inl, inr, sym, ap, ◌∙◌, subst}
+use Rattle.std.proofs.Common.{◌≡◌, ℕ, ◌*◌, List, [], ◌∷◌, Contains, Some, inl, inr, sym, ap, ◌∙◌, subst}
 use Rattle.std.specs.Prelude.{slice_get}
-use Rattle.std.proofs.lemmas.List.Elements.{Contains-append_left, Contains-append_right}
 use Rattle.std.proofs.lemmas.Option.{same_Some}
 use Rattle.lists.proofs.Entries.{Contains-head, Contains-cases, none_in_empty}
 use Rattle.graphs.specs.declared.names.Level.{Level}
 use Rattle.graphs.specs.Certificates.{Part}
-use Rattle.graphs.specs.Closures.{Closure, AreLinked}
-use Rattle.cluster.specs.Clusters.{Cluster, AreApart}
+use Rattle.graphs.specs.Closures.{Closure}
+use Rattle.cluster.specs.Clusters.{Cluster}
 use Rattle.cluster_store.specs.Laws.{Stands, StandsAt, Stays}
 use Rattle.cluster_store.specs.Stores.{Stored, Numbered, IsStore}
 use Rattle.cluster_store.proofs.Orders.{orders_are_kept}

@@ -1,5 +1,5 @@
 -- The names of clusters of main that the top level left are touched.
-use Rattle.std.proofs.Common.{◌≡◌, ℕ, ◌+◌, ◌<◌, List, [], ◌∷◌, ◌++◌, length, slice_index_or, take, Contains, Option, Some, None, is_some, IsSome, inl, inr, ◌⊎◌, ◌↔◌, refl, sym, ap, ◌∙◌, subst}
+use Rattle.std.proofs.Common.{◌≡◌, ℕ, ◌+◌, ◌<◌, List, [], ◌∷◌, ◌++◌, length, slice_index_or, take, Contains, Option, Some, None, is_some, inl, inr, ◌⊎◌, ◌↔◌, refl, sym, ap, ◌∙◌, subst}
 use Rattle.std.specs.Prelude.{option_map, unwrap_or}
 use Rattle.std.proofs.lemmas.List.{take_more}
 use Rattle.std.proofs.lemmas.List.Elements.{Contains-append_left, Contains-get_or, Contains-push, Contains-push_cases}
@@ -8,10 +8,9 @@ use Rattle.std.specs.FinMap as finmap
 use Rattle.lists.specs.Distinct.{AreDistinct}
 use Rattle.lists.proofs.Distinct.{repeated}
 use Rattle.graphs.specs.declared.names.Level.TheVariants.{Main, Top}
-use Rattle.chunk_index.specs.declared.entry.Tag.{Tag}
 use Rattle.chunk_index.specs.declared.entry.Tag.TheVariants.{MainOnly}
 use Rattle.cluster.specs.Clusters.{Cluster}
-use Rattle.cluster_store.specs.Stores.{Numbered, Stored}
+use Rattle.cluster_store.specs.Stores.{Stored}
 use Rattle.name_book.specs.Books.{IsNamed}
 use Rattle.name_book.specs.Calls.{Touches}
 use Rattle.levels.specs.Kept.{SuitsShelf}

@@ -7,7 +7,8 @@ use Rattle.graphs.specs.Closures.{Closure, is_ancestor, AddsPair, SetsFee}
 use Rattle.graphs.specs.declared.names.Level.{Level}
 use Rattle.graphs.specs.declared.names.Level.TheVariants.{Main, Top}
 use Rattle.fee_rate.specs.declared.rates.FeeRate.{FeeRate}
-use Rattle.cluster.specs.Clusters.{Cluster, IsCluster}
+use Rattle.cluster.specs.Clusters.{Cluster}
+use Rattle.record.specs.Records.{IsConnected}
 use Rattle.levels.specs.Changes.{IsRebuilt, Rebuilds}
 use Rattle.levels.specs.Levels.{AddsName, ChangesTop, LosesNames, OneLevel, SetsFeeIn, SetsFeeOf, level_at}
 use Rattle.levels.specs.Moves.{AddsTop, DropsTop, PairsTop, SetsFeeAt, SetsFees}
@@ -37,16 +38,16 @@ module _ (w issued : ℕ) (outs made : List ℕ) (olds news : List Cluster) (gon
   changed Changes holds = (
     one_of Top new,
     subst (λ (l : OneLevel). Changes l.graph (graph_of (view_of Top new))) (sym (level_of_shelf Top old issued (alike w old before))) holds,
-    levels_changed old new issued r.staged main_same (λ none. alike w new after (none_of new.staging old.staging r.staged none)),
+    levels_changed old new issued r.limits r.staged main_same (λ none. alike w new after (none_of new.staging old.staging r.staged none)),
   )
 
   -- the clusters that go out are whole, and those that come in
-  pub olds_whole : (c : Cluster) → Contains olds c → IsCluster (64 * w) c
+  pub olds_whole : (c : Cluster) → Contains olds c → IsConnected c
   olds_whole c here =
-      let at = placed_of (seen_at Top old.store.clusters) outs olds c r.top.taken here in before.top.whole (slice_index outs at.place) c at.stands
+      let at = placed_of (seen_at Top old.store.clusters) outs olds c r.top.taken here in (before.top.whole (slice_index outs at.place) c at.stands).connected
 
-  pub news_whole : (c : Cluster) → Contains news c → IsCluster (64 * w) c
-  news_whole c here = r.top.covers.whole c here
+  pub news_whole : (c : Cluster) → Contains news c → IsConnected c
+  news_whole c here = (r.top.covers.whole c here).connected
 
 -- ---- another fee
 
@@ -108,21 +109,21 @@ module _ (w issued : ℕ) (old new : Shelf) (before : IsInOrder w old) (after : 
     told : IsRebuilt pairs.olds (pairs.now ∷ []) [] was now
     told = rebuilt w issued outs made_of pairs.olds (pairs.now ∷ []) [] old new before after pairs.rebuilds
 
-    olds_in : (c : Cluster) → Contains pairs.olds c → IsCluster (64 * w) c
+    olds_in : (c : Cluster) → Contains pairs.olds c → IsConnected c
     olds_in = olds_whole w issued outs made_of pairs.olds (pairs.now ∷ []) [] old new before after pairs.rebuilds
 
-    news_in : (c : Cluster) → Contains (pairs.now ∷ []) c → IsCluster (64 * w) c
+    news_in : (c : Cluster) → Contains (pairs.now ∷ []) c → IsConnected c
     news_in = news_whole w issued outs made_of pairs.olds (pairs.now ∷ []) [] old new before after pairs.rebuilds
 
     pub paired_top : ChangesTop (λ g h. AddsPair g h p q) (levels_of old issued) (levels_of new issued)
     paired_top =
         changed w issued outs made_of pairs.olds (pairs.now ∷ []) [] old new before after pairs.rebuilds (λ g h. AddsPair g h p q)
-        (adds_pair (64 * w) pairs.olds (pairs.now ∷ []) [] was now told olds_in news_in p q pairs.pair)
+        (adds_pair pairs.olds (pairs.now ∷ []) [] was now told olds_in news_in p q pairs.pair)
 
     pub paired_keeps : is_ancestor was p q ≡ false → AllStay (levels_of old issued) (levels_of new issued)
     paired_keeps apart =
         top_stays w old new before after issued issued outs made_of pairs.olds (pairs.now ∷ []) [] pairs.rebuilds
-        (pair_away (64 * w) pairs.olds (pairs.now ∷ []) [] was now told olds_in news_in p q pairs.pair apart)
+        (pair_away pairs.olds (pairs.now ∷ []) [] was now told olds_in news_in p q pairs.pair apart)
 
   module _ (outs gone : List ℕ) (d : DropsTop w outs gone old new) where
     abbrev all : List ℕ
@@ -134,21 +135,21 @@ module _ (w issued : ℕ) (old new : Shelf) (before : IsInOrder w old) (after : 
     lost : IsRebuilt d.is.olds left gone was now
     lost = rebuilt w issued outs all d.is.olds left gone old new before after d.is.rebuilds
 
-    whole_olds : (c : Cluster) → Contains d.is.olds c → IsCluster (64 * w) c
+    whole_olds : (c : Cluster) → Contains d.is.olds c → IsConnected c
     whole_olds = olds_whole w issued outs all d.is.olds left gone old new before after d.is.rebuilds
 
-    whole_left : (c : Cluster) → Contains left c → IsCluster (64 * w) c
+    whole_left : (c : Cluster) → Contains left c → IsConnected c
     whole_left = news_whole w issued outs all d.is.olds left gone old new before after d.is.rebuilds
 
     pub dropped_top : ChangesTop (λ g h. LosesNames g h gone) (levels_of old issued) (levels_of new issued)
     dropped_top =
         changed w issued outs all d.is.olds left gone old new before after d.is.rebuilds (λ g h. LosesNames g h gone)
-        (loses_names (64 * w) d.is.olds left gone was now lost whole_olds whole_left d.drops)
+        (loses_names d.is.olds left gone was now lost whole_olds whole_left d.drops)
 
     pub dropped_keeps : AllStay (levels_of old issued) (levels_of new issued)
     dropped_keeps =
         top_stays w old new before after issued issued outs all d.is.olds left gone d.is.rebuilds
-        (drops_away (64 * w) d.is.olds left gone was now lost whole_olds whole_left d.drops)
+        (drops_away d.is.olds left gone was now lost whole_olds whole_left d.drops)
 
   fee_of : (level : Level) (id : ℕ) (fee : ℤ) → numbers_at level new ≡ numbers_at level old → SetsFeeAt w id fee level old new
       → SetsFeeOf id fee (one_of level old) (one_of level new)
@@ -163,8 +164,9 @@ module _ (w issued : ℕ) (old new : Shelf) (before : IsInOrder w old) (after : 
   pub fees_set : (id : ℕ) (fee : ℤ) → SetsFees w id fee old new → SetsFeeIn id fee (levels_of old issued) (levels_of new issued)
   fees_set id fee sets =
       let numbers : numbers_at Top new ≡ numbers_at Top old =
-      λ i. numbers_at Top (record { main = sets.numbers i; staging = sets.staging i; store = new.store }) in
+      λ i. numbers_at Top (record { limits = new.limits; main = sets.numbers i; staging = sets.staging i; store = new.store }) in
       record {
+        limits = sets.limits;
         main = fee_of Main id fee sets.numbers sets.main;
         staged = some_levels new.staging old.staging sets.staging;
         top = top_of numbers;

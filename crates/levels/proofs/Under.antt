@@ -9,7 +9,7 @@ use Rattle.levels.specs.Shelves.{Shelf, IsInOrder, numbers_at, seen_at, stored_a
 use Rattle.levels.specs.Views.{StandsAt, IsClusterOf, graph_of}
 use Rattle.levels.proofs.Finds.{indexed_at}
 use Rattle.levels.proofs.Found.{cluster_of}
-use Rattle.levels.proofs.Graphs.{member-number, stands_in}
+use Rattle.levels.proofs.Graphs.{in_live, member-number, stands_in}
 use Rattle.levels.proofs.Seen.{seen_is_stored}
 
 pub live : (level : Level) (shelf : Shelf) (id number : ℕ) → finmap.get (numbers_at level shelf) id ≡ Some number
@@ -27,6 +27,9 @@ module _ (w : ℕ) (shelf : Shelf) (order : IsInOrder w shelf) (level : Level) (
   pub is_stored : IsSome (stored_at shelf.store.clusters number)
   is_stored = ap is_some kept
 
+  pub stored : (c : Cluster) × (stored_at shelf.store.clusters number ≡ Some c)
+  stored = (stands.cluster, kept)
+
   -- what is stored there is seen
   pub seen_there : (c : Cluster) → stored_at shelf.store.clusters number ≡ Some c → seen_at level shelf.store.clusters number ≡ Some c
   seen_there c at = stands.there ∙ ap Some (same_Some stands.cluster c (sym kept ∙ at))
@@ -36,3 +39,8 @@ module _ (w : ℕ) (shelf : Shelf) (order : IsInOrder w shelf) (level : Level) (
 
   pub its_cluster : (c : Cluster) → seen_at level shelf.store.clusters number ≡ Some c → IsClusterOf (graph_of (view_of level shelf)) id c
   its_cluster c at = cluster_of (64 * w) (view_of level shelf) (indexed_at w shelf order level) number c at id (held c at)
+
+  -- the names of what is stored there are live
+  pub name_live : (c : Cluster) → stored_at shelf.store.clusters number ≡ Some c → (q : ℕ) → Contains c.names q
+      → is_member (graph_of (view_of level shelf)) q ≡ true
+  name_live c at q here = in_live (64 * w) (view_of level shelf) (indexed_at w shelf order level) number q c (seen_there c at) here

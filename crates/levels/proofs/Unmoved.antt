@@ -1,7 +1,6 @@
 -- What a change of the top level leaves as it was: components that stay keep their parts and flows, in their order, in both levels.
-use Rattle.std.proofs.Common.{◌≡◌, ℕ, ◌*◌, ◌&&◌, true, List, [], ◌∷◌, Contains, Some, inl, inr, sym, ap, ◌∙◌, subst, subst₂, true≢false, Result, Ok, Err, OnOk, OnErr}
-use Rattle.std.specs.FinMap as finmap
-use Rattle.lists.proofs.Entries.{Contains-head, none_in_empty}
+use Rattle.std.proofs.Common.{◌≡◌, ℕ, ◌*◌, List, [], inl, inr, sym, ap, subst, subst₂}
+use Rattle.lists.proofs.Entries.{none_in_empty}
 use Rattle.graphs.specs.declared.names.Level.{Level}
 use Rattle.graphs.specs.declared.names.Level.TheVariants.{Main, Top}
 use Rattle.cluster.specs.Clusters.{Cluster}

@@ -51,10 +51,10 @@ module _ (w : ℕ) (shelf : Shelf) (order : IsInOrder w shelf) (p q number : ℕ
   way_row limits (Ok link) is = within_row graph p q c both limits (up ∙ is.0)
   way_row limits (Err why) is = subst (λ (r : Refusal). DepRefusalIs limits graph p q (Some r)) (sym is.0) (cycle_row graph p q c both limits (up ∙ is.1))
 
-  pub way_link : (result : Result Link Refusal) → IsWithin c number p q result → IfOk result (IsLink w shelf p q)
+  pub way_link : (result : Result Link Refusal) → IsWithin c number p q result → IfOk result (IsLink shelf p q)
   way_link (Ok link) is = elim is.1 [
-    | inl there ↦ subst (IsLink w shelf p q) (sym there.0) (down ∙ there.1)
-    | inr near ↦ subst (IsLink w shelf p q) (sym near.0) (p_is, q_is, down ∙ near.1, up ∙ is.0)
+    | inl there ↦ subst (IsLink shelf p q) (sym there.0) (down ∙ there.1)
+    | inr near ↦ subst (IsLink shelf p q) (sym near.0) (p_is, q_is, down ∙ near.1, up ∙ is.0)
   ]
   way_link (Err why) is = tt
 

@@ -1,5 +1,5 @@
 -- What a change leaves of a level: some clusters go out and others come in, and names get the numbers of these.
-use Rattle.std.specs.Prelude.{◌≡◌, ◌⊎◌, ℕ, true, List, slice_get, slice_index, Contains, Option, Some, None}
+use Rattle.std.specs.Prelude.{◌≡◌, ◌⊎◌, ℕ, true, List, slice_get, slice_index, Contains, Some, None}
 use Rattle.std.specs.List.{AllPairs}
 use Rattle.std.specs.FinMap as finmap
 use Rattle.graphs.specs.Closures.{Closure, is_member}

@@ -1,5 +1,5 @@
 -- What the changes of a shelf make of clusters.
-use Rattle.std.specs.Prelude.{◌≡◌, ◌≢◌, ◌⊎◌, ◌↔◌, ℕ, ℤ, ◌+◌, ◌*◌, length, MatchOption, true, false, List, [], ◌∷◌, ◌++◌, Contains, Option, None, Some, option_to_list}
+use Rattle.std.specs.Prelude.{◌≡◌, ◌≢◌, ◌⊎◌, ◌↔◌, ℕ, ℤ, ◌+◌, ◌*◌, MatchOption, true, false, List, [], ◌∷◌, ◌++◌, Contains, Option, None, Some, option_to_list}
 use Rattle.std.specs.FinMap as finmap
 use Rattle.graphs.specs.declared.names.Level.{Level}
 use Rattle.graphs.specs.declared.names.Level.TheVariants.{Main, Top}

@@ -18,7 +18,7 @@ ghost use Rattle.cluster_store.specs.Lent.{lent};
 ghost use Rattle.diagram.specs.Parts.{AreLevelParts, YieldsParts};
 ghost use Rattle.levels.specs.Held.{IsHeldIn};
 ghost use Rattle.levels.specs.Orders.{ComparesParts, ListsCovers, sums_of};
-ghost use Rattle.levels.specs.Levels.{AddsName, ChangesTop, GrowsForFee, IsBest, IsLive, IsWithin, LosesNames, MayCome, SetsFeeIn, level_at, no_names};
+ghost use Rattle.levels.specs.Levels.{AddsName, ChangesTop, GrowsForFee, HavePicks, IsBest, IsLive, IsWithin, LosesNames, MayCome, SetsFeeIn, level_at, no_names};
 ghost use Rattle.levels.specs.Joins.{DepRefusalIs};
 ghost use Rattle.levels.specs.Lefts.{DropsWithin};
 ghost use Rattle.levels.specs.Levels as specs_levels;
@@ -107,7 +107,7 @@ impl<const W: usize> Levels<W> {
         requires alone { self.old.staging ≡ None }
         requires in_range { AreInRange (64 * W) (bounds_of limits) }
         ensures set { self.new ≡ record self.old { limits = limits } }
-        ensures kept { KeepsPicks self.old self.new }
+        ensures picks { HavePicks self.new }
     {
         let _count = self.mains;
         self.shelves.set_limits(limits);
@@ -401,9 +401,10 @@ impl<const W: usize> Levels<W> {
         self.shelves.least()
     }
 
-    /// The fees and sizes of the parts of a level in its order, in satoshis and virtual bytes. Takes no memory, and looks at no
-    /// cluster.
+    /// The fees and sizes of the parts of a level in its order, in satoshis and virtual bytes. The level isn't over the limits. Takes
+    /// no memory, and looks at no cluster.
     pub fn rates(&self, level: Level) -> RateWalk<'_>
+        requires { IsWithin self.now level }
         ensures rates { result ≡ sums_of (level_at self.now level).parts }
         ensures yields { YieldsParts ⟦<RateWalk<'static> as Iterator>⟧.next_gives result (sums_of (level_at self.now level).parts) }
         ensures names { (id : ℕ) → is_member (level_at self.now level).graph id ≡ true

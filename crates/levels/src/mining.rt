@@ -116,6 +116,7 @@ fn lacks_touched<const W: usize>(shelves: &mut Shelves<W>, rings: &NameBook, id:
 }
 
 /// The touched names of a book of names, as a listing.
+#[derive(Drop)]
 pub(crate) struct Touched<'a> {
     pub(crate) rings: &'a NameBook,
 }

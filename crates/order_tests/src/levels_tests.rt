@@ -14,6 +14,7 @@ const ROOMY: Limits = Limits {
     count: 64,
     size: 404_000,
     total: 100_000,
+    defer: false,
 };
 
 // Adds a name of size 200, with its fee.

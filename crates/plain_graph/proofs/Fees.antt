@@ -1,6 +1,6 @@
 -- Transactions with another fee at a name, and the step of the machine that this is.
 use Rattle.std.proofs.Common.{◌≡◌, ℕ, ℤ, ◌+◌, ◌≤◌, Bool, true, false, cond, eqb, List, [], ◌∷◌, length, map, sym, refl, ap, subst, ◌∙◌, arith, Option, None, Some}
-use Rattle.std.specs.Prelude.{is_some, IsSome}
+use Rattle.std.specs.Prelude.{◌↔◌, is_some, IsSome, IsTrue}
 use Rattle.std.specs.FinMap as finmap
 use Rattle.std.specs.Cmp.{nat_cmp_total, unsigned_tied}
 use Rattle.std.proofs.lemmas.Bool.Decides.{Decides-eqb, nat_tests}
@@ -12,13 +12,15 @@ use Rattle.graph_model.specs.declared.names.Limits.{Limits}
 use Rattle.graph_model.specs.declared.names.Refusal.{Refusal}
 use Rattle.graph_model.specs.Limits.{bounds_of}
 use Rattle.graph_model.specs.States.{PlainState, Entry, Table, size_of, size_in}
+use Rattle.graph_model.specs.Oversize.{HasOver}
 use Rattle.graph_model.specs.Changes.{with_fee}
 use Rattle.graph_model.specs.Commands.{SetFee}
 use Rattle.graph_model.specs.Refusals.{RefusalIs}
 use Rattle.graph_model.specs.Replies.{Done}
 use Rattle.plain_graph.specs.declared.tx.Tx.{Tx}
-use Rattle.plain_graph.specs.Plain.{Kept, StandsFor, Steps, entry_in}
+use Rattle.plain_graph.specs.Plain.{Kept, StandsFor, Steps, entry_in, sizes_in}
 use Rattle.plain_graph.specs.Sound.{names_of, AreSmall, IsSound}
+use Rattle.plain_graph.specs.Overs.{IsOver, IsRight}
 use Rattle.plain_graph.specs.Rests.{paying}
 use Rattle.plain_graph.specs.Walks.{EndsAreAmong}
 use Rattle.plain_graph.proofs.Entries.{entry_of, none_of_true}
@@ -118,7 +120,7 @@ steps_paid old new id fee limits begun txs pairs some none =
     ))
 
 -- what the fields keep after a change of fee
-pub sound_paid : (set : Limits) (txs : List Tx) (pairs : List (ℕ × ℕ)) (places id : ℕ) (fee : ℤ)
+sound_paid : (set : Limits) (txs : List Tx) (pairs : List (ℕ × ℕ)) (places id : ℕ) (fee : ℤ)
     → IsSound set txs pairs places → IsSound set (map (paying id fee) txs) pairs places
 sound_paid set txs pairs places id fee sound = record {
   in_range = sound.in_range;
@@ -127,6 +129,26 @@ sound_paid set txs pairs places id fee sound = record {
   pairs_once = sound.pairs_once;
   ends = subst (λ (names : List ℕ). EndsAreAmong names pairs) (sym (names-paying id fee txs)) sound.ends;
   enough = subst (λ (n : ℕ). n ≤ places) (sym (length-map txs (paying id fee))) sound.enough;
+}
+
+sizes_repaid : (b : Bool) (fee : ℤ) (found : Option Entry) → size_in (cond b (repaid fee found) found) ≡ size_in found
+sizes_repaid true fee None = refl
+sizes_repaid true fee (Some entry) = refl
+sizes_repaid false fee found = refl
+
+sizes-paying : (id : ℕ) (fee : ℤ) (txs : List Tx) → sizes_in (map (paying id fee) txs) ≡ sizes_in txs
+sizes-paying id fee txs = λ i. λ q. (ap size_in (entry-paying id fee txs q) ∙ sizes_repaid (eqb q id) fee (entry_in txs q)) i
+
+-- names and sizes stay, and so does what is over the limits
+over_paid : (set : Limits) (txs : List Tx) (pairs : List (ℕ × ℕ)) (id : ℕ) (fee : ℤ) → IsOver set (map (paying id fee) txs) pairs ≡ IsOver set txs pairs
+over_paid set txs pairs id fee =
+    λ i. (set.defer ≡ true) × HasOver (bounds_of set) (sizes-paying id fee txs i) (record { names = names-paying id fee txs i; pairs = pairs })
+
+pub right_paid : (set : Limits) (txs : List Tx) (pairs : List (ℕ × ℕ)) (places id : ℕ) (fee : ℤ) (over : Bool)
+    → IsRight set txs pairs places over → IsRight set (map (paying id fee) txs) pairs places over
+right_paid set txs pairs places id fee over right = record {
+  sound = sound_paid set txs pairs places id fee right.sound;
+  noted = subst (λ (P : Type 0). IsTrue over ↔ P) (sym (over_paid set txs pairs id fee)) right.noted;
 }
 
 -- the refusal of `fee` at an equal fee

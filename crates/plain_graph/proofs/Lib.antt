@@ -4,6 +4,7 @@ mod Standing
 mod Spreads
 mod Starts
 mod JoinLemmas
+mod OverLemmas
 mod Readings
 mod Puts
 mod Fees

@@ -1,18 +1,23 @@
 -- The steps of the machine that a pair and a reading of names are.
-use Rattle.std.proofs.Common.{◌≡◌, ℕ, true, List, [], ◌∷◌, ◌++◌, length, sym, refl, subst, ap, ◌∙◌, inl, inr, None, Some, Result, Ok, Err}
+use Rattle.std.proofs.Common.{◌≡◌, ℕ, true, List, [], ◌∷◌, ◌++◌, length, sym, refl, subst, ◌↔◌, Option, ap, ◌∙◌, inl, inr, None, Some, Result, Ok, Err}
 use Rattle.std.specs.Prelude.{Contains, MatchResult}
 use Rattle.std.proofs.lemmas.List.Elements.{Contains-push_cases}
 use Rattle.graph_model.specs.declared.names.Limits.{Limits}
 use Rattle.graphs.specs.declared.names.Level.{Level}
 use Rattle.graph_model.specs.declared.names.Refusal.{Refusal}
-use Rattle.graph_model.specs.declared.names.Refusal.TheVariants.{Unknown}
+use Rattle.graph_model.specs.declared.names.Refusal.TheVariants.{Unknown, Oversized}
 use Rattle.graphs.specs.Graphs.{Graph, IsAncestor, AreConnected, Lists}
-use Rattle.graph_model.specs.States.{PlainState, Table, level_of, with_top}
+use Rattle.graph_model.specs.States.{PlainState, Table, with_top}
 use Rattle.graph_model.specs.Limits.{bounds_of}
 use Rattle.graph_model.specs.Validity.{IsValid}
 use Rattle.graph_model.specs.Changes.{begun}
 use Rattle.graph_model.specs.Commands.{Dep, Cluster, Ancestors, Descendants}
-use Rattle.graph_model.specs.Refusals.{RefusalIs}
+use Rattle.graph_model.specs.Oversize.{IsOversized}
+use Rattle.graph_model.specs.Refusals.{RefusalIs, IsAbsent, NameRow}
+use Rattle.graph_model.proofs.RowLemmas.{first_along}
+use Rattle.plain_graph.specs.Overs.{IsOver, WalkRefusalIs}
+use Rattle.plain_graph.proofs.OverLemmas.{over_level}
+use Rattle.graphs.specs.declared.names.Level.TheVariants.{Main, Top}
 use Rattle.graph_model.specs.Replies.{Ids, Done}
 use Rattle.plain_graph.specs.declared.tx.Tx.{Tx}
 use Rattle.plain_graph.specs.declared.walk.Way.{Way}
@@ -22,7 +27,7 @@ use Rattle.plain_graph.specs.Plain.{Kept, StandsFor, Steps, entry_in}
 use Rattle.plain_graph.specs.Sound.{names_of, IsSound}
 use Rattle.plain_graph.specs.Walks.{Reaches}
 use Rattle.lists.proofs.Distinct.{distinct_push}
-use Rattle.plain_graph.proofs.Standing.{IsSameGraph, HasTable, state_of, of_states, stands_for, stands_still, level-main, not_over, steps_refused, steps_accepted}
+use Rattle.plain_graph.proofs.Standing.{IsSameGraph, HasTable, state_of, of_states, stands_for, stands_still, level-main, steps_refused, steps_accepted}
 
 pub same_but_found : (old new : Kept) (ids : List ℕ) → new ≡ record old { found = ids } → IsSameGraph old new
 same_but_found old new ids same = record {
@@ -88,20 +93,27 @@ sound_paired set txs pairs places a b sound absent one other = record {
   enough = sound.enough;
 }
 
--- a reading of a name that isn't there
-unread : (kept : Kept) (level : Level) (id : ℕ) (table : Table) → (Contains (names_of kept.txs) id → ⊥)
-    → Contains (level_of (state_of kept table) level).names id → ⊥
-unread kept level id table absent = subst (λ (at : Graph). Contains at.names id → ⊥) (sym (level-main kept table level)) absent
+pub walk_over : (kept : Kept) (id : ℕ) → Contains (names_of kept.txs) id → IsOver kept.limits kept.txs kept.pairs → WalkRefusalIs kept id (Some Oversized)
+walk_over kept id here over = inr (λ absent. absent here, inl (over, refl))
 
-is_read : (kept : Kept) (level : Level) (id : ℕ) (table : Table) → Contains (names_of kept.txs) id
-    → (Contains (level_of (state_of kept table) level).names id → ⊥) → ⊥
-is_read kept level id table here absent = subst (λ (at : Graph). Contains at.names id → ⊥) (level-main kept table level) absent here
+pub walk_found : (kept : Kept) (id : ℕ) → Contains (names_of kept.txs) id → (IsOver kept.limits kept.txs kept.pairs → ⊥) → WalkRefusalIs kept id None
+walk_found kept id here within = inr (λ absent. absent here, inr (within, refl))
 
-steps_up : (old new : Kept) (level : Level) (id : ℕ) → IsSameGraph old new → Contains (names_of old.txs) id
+-- the row of a reading of a name
+row_read : (kept : Kept) (level : Level) (id : ℕ) (found : Option Refusal) → WalkRefusalIs kept id found → (table : Table) → HasTable kept.txs table
+    → IsValid (state_of kept table) → NameRow (IsAbsent (state_of kept table) level id) (IsOversized (state_of kept table) level) id found
+row_read kept level id found row table has valid =
+    first_along (Unknown id) (same_absent level) (first_along Oversized (over_level kept table level has valid) (λ none. none)) row
+  where
+    same_absent : (level : Level) → (Contains (names_of kept.txs) id → ⊥) ↔ IsAbsent (state_of kept table) level id
+    same_absent Main = (λ absent. absent, λ absent. absent)
+    same_absent Top = (λ absent. absent, λ absent. absent)
+
+steps_up : (old new : Kept) (level : Level) (id : ℕ) → IsSameGraph old new → WalkRefusalIs old id None
     → Lists (λ a. IsAncestor old.pairs a id) new.found → Steps old new (Ancestors id level) (Ids new.found)
-steps_up old new level id same here lists =
+steps_up old new level id same unrefused lists =
     steps_accepted old new (Ancestors id level) (Ids new.found) tt
-    (of_states old (λ (state : PlainState). RefusalIs state (Ancestors id level) None) (λ table has valid. inr (is_read old level id table here, inr (not_over old table level valid, refl))))
+    (of_states old (λ (state : PlainState). RefusalIs state (Ancestors id level) None) (row_read old level id None unrefused))
     (λ table has. (
       state_of old table,
       λ valid. stands_still old new same (state_of old table) (stands_for old table has valid),
@@ -112,11 +124,11 @@ steps_up old new level id same here lists =
           },
     ))
 
-steps_down : (old new : Kept) (level : Level) (id : ℕ) → IsSameGraph old new → Contains (names_of old.txs) id
+steps_down : (old new : Kept) (level : Level) (id : ℕ) → IsSameGraph old new → WalkRefusalIs old id None
     → Lists (λ d. IsAncestor old.pairs id d) new.found → Steps old new (Descendants id level) (Ids new.found)
-steps_down old new level id same here lists =
+steps_down old new level id same unrefused lists =
     steps_accepted old new (Descendants id level) (Ids new.found) tt
-    (of_states old (λ (state : PlainState). RefusalIs state (Descendants id level) None) (λ table has valid. inr (is_read old level id table here, inr (not_over old table level valid, refl))))
+    (of_states old (λ (state : PlainState). RefusalIs state (Descendants id level) None) (row_read old level id None unrefused))
     (λ table has. (
       state_of old table,
       λ valid. stands_still old new same (state_of old table) (stands_for old table has valid),
@@ -127,11 +139,11 @@ steps_down old new level id same here lists =
           },
     ))
 
-steps_around : (old new : Kept) (level : Level) (id : ℕ) → IsSameGraph old new → Contains (names_of old.txs) id
+steps_around : (old new : Kept) (level : Level) (id : ℕ) → IsSameGraph old new → WalkRefusalIs old id None
     → Lists (AreConnected old.pairs id) new.found → Steps old new (Cluster id level) (Ids new.found)
-steps_around old new level id same here lists =
+steps_around old new level id same unrefused lists =
     steps_accepted old new (Cluster id level) (Ids new.found) tt
-    (of_states old (λ (state : PlainState). RefusalIs state (Cluster id level) None) (λ table has valid. inr (is_read old level id table here, inr (not_over old table level valid, refl))))
+    (of_states old (λ (state : PlainState). RefusalIs state (Cluster id level) None) (row_read old level id None unrefused))
     (λ table has. (
       state_of old table,
       λ valid. stands_still old new same (state_of old table) (stands_for old table has valid),
@@ -145,29 +157,25 @@ steps_around old new level id same here lists =
 -- what a reading says of its result
 abbrev pub Reads : {T : Type 0} → Way → Kept → Kept → ℕ → Result T Refusal → Type 0
 Reads way old new id result =
-    MatchResult result (λ _. Contains (names_of old.txs) id × Lists (Reaches way old.pairs id) new.found)
-    (λ why. (Contains (names_of old.txs) id → ⊥) × (why ≡ Unknown id))
+    MatchResult result (λ _. WalkRefusalIs old id None × Lists (Reaches way old.pairs id) new.found) (λ why. WalkRefusalIs old id (Some why))
 
 pub steps_ancestors : {T : Type 0} (old new : Kept) (level : Level) (id : ℕ) (result : Result T Refusal)
     → IsSameGraph old new → Reads Up old new id result → Steps old new (Ancestors id level) (names_reply result new.found)
 steps_ancestors old new level id (Ok done) same reads = steps_up old new level id same reads.0 reads.1
 steps_ancestors old new level id (Err why) same reads =
     steps_refused old new (Ancestors id level) why same
-    (of_states old (λ (state : PlainState). RefusalIs state (Ancestors id level) (Some why))
-    (λ table has valid. inl (unread old level id table reads.0, ap Some reads.1)))
+    (of_states old (λ (state : PlainState). RefusalIs state (Ancestors id level) (Some why)) (row_read old level id (Some why) reads))
 
 pub steps_descendants : {T : Type 0} (old new : Kept) (level : Level) (id : ℕ) (result : Result T Refusal)
     → IsSameGraph old new → Reads Down old new id result → Steps old new (Descendants id level) (names_reply result new.found)
 steps_descendants old new level id (Ok done) same reads = steps_down old new level id same reads.0 reads.1
 steps_descendants old new level id (Err why) same reads =
     steps_refused old new (Descendants id level) why same
-    (of_states old (λ (state : PlainState). RefusalIs state (Descendants id level) (Some why))
-    (λ table has valid. inl (unread old level id table reads.0, ap Some reads.1)))
+    (of_states old (λ (state : PlainState). RefusalIs state (Descendants id level) (Some why)) (row_read old level id (Some why) reads))
 
 pub steps_cluster : {T : Type 0} (old new : Kept) (level : Level) (id : ℕ) (result : Result T Refusal) → IsSameGraph old new
     → Reads Either old new id result → Steps old new (Cluster id level) (names_reply result new.found)
 steps_cluster old new level id (Ok done) same reads = steps_around old new level id same reads.0 reads.1
 steps_cluster old new level id (Err why) same reads =
     steps_refused old new (Cluster id level) why same
-    (of_states old (λ (state : PlainState). RefusalIs state (Cluster id level) (Some why))
-    (λ table has valid. inl (unread old level id table reads.0, ap Some reads.1)))
+    (of_states old (λ (state : PlainState). RefusalIs state (Cluster id level) (Some why)) (row_read old level id (Some why) reads))

@@ -1,5 +1,5 @@
 -- Which states a plain graph stands for, and the steps of the machine that its calls are.
-use Rattle.std.proofs.Common.{◌≡◌, ℕ, ℤ, ◌+◌, ◌^◌, ◌<◌, ◌≤◌, arith, true, false, cond, eqb, List, [], ◌∷◌, ◌++◌, length, sym, refl, ap, subst, ◌∙◌, inl, inr, Option, None, Some}
+use Rattle.std.proofs.Common.{◌≡◌, ℕ, ℤ, Bool, ◌+◌, ◌^◌, ◌<◌, ◌≤◌, arith, true, false, cond, eqb, List, [], ◌∷◌, ◌++◌, length, sym, refl, ap, subst, ◌∙◌, inl, inr, Option, None, Some}
 use Rattle.std.proofs.lemmas.List.Elements.{All-push, Contains-append_left}
 use Rattle.lists.specs.Distinct.{AreDistinct}
 use Rattle.fee_rate.specs.declared.limits.TheConstants.{MAX_SIZE}
@@ -12,12 +12,11 @@ use Rattle.std.proofs.lemmas.List.{map_push, length_push, length-map}
 use Rattle.graph_model.specs.declared.names.Refusal.{Refusal}
 use Rattle.graph_model.specs.declared.names.Refusal.TheVariants.{Memory}
 use Rattle.graphs.specs.Graphs.{Graph}
-use Rattle.graph_model.specs.States.{PlainState, Picks, Table, Entry, level_of, plain_start}
+use Rattle.graph_model.specs.States.{PlainState, Picks, Table, Entry, level_of, size_of, size_in, plain_start}
 use Rattle.graph_model.specs.Changes.{added, limited}
 use Rattle.graph_model.specs.Commands.{Command, SetLimits, Add, Count}
 use Rattle.graph_model.specs.declared.limits.TheConstants.{DEFAULT_LIMITS}
-use Rattle.graph_model.specs.Limits.{bounds_of}
-use Rattle.graph_model.specs.Oversize.{IsOversized}
+use Rattle.graph_model.specs.Limits.{AreInRange, bounds_of}
 use Rattle.graph_model.specs.Validity.{IsValid}
 use Rattle.graphs.specs.declared.names.Level.{Level}
 use Rattle.graphs.specs.declared.names.Level.TheVariants.{Main, Top}
@@ -27,8 +26,9 @@ use Rattle.graph_model.specs.Steps.{AcceptsPlainly, MayLackMemory}
 use Rattle.graph_model.proofs.StepLemmas.{AddsSmall, valid_plain, steps_keep_valid}
 use Rattle.plain_graph.specs.declared.limits.TheConstants.{MAX_NAMES}
 use Rattle.plain_graph.specs.declared.tx.Tx.{Tx}
-use Rattle.plain_graph.specs.Plain.{Kept, StandsFor, Steps, entry_in}
+use Rattle.plain_graph.specs.Plain.{Kept, StandsFor, Steps, entry_in, sizes_in}
 use Rattle.plain_graph.specs.Sound.{names_of, IsSound}
+use Rattle.plain_graph.specs.Overs.{IsRight}
 use Rattle.plain_graph.proofs.Entries.{entry_of, entry-push, Contains-entry, none_of_true}
 use Rattle.lists.proofs.Distinct.{distinct_push}
 
@@ -188,6 +188,33 @@ steps_limited old new limits is begun txs pairs none =
       λ picks. record { answer = refl; change = refl },
     ))
 
+-- what the fields keep where there are more places
+pub right_with_room : (set : Limits) (txs : List Tx) (pairs : List (ℕ × ℕ)) (places more : ℕ) (over : Bool)
+    → IsRight set txs pairs places over → places ≤ more → IsRight set txs pairs more over
+right_with_room set txs pairs places more over right grown = record {
+  sound = record {
+    in_range = right.sound.in_range;
+    small = right.sound.small;
+    names_once = right.sound.names_once;
+    pairs_once = right.sound.pairs_once;
+    ends = right.sound.ends;
+    enough = omega (arith, right.sound.enough, grown);
+  };
+  noted = right.noted;
+}
+
+-- what the fields keep under other limits
+pub sound_limited : (old set : Limits) (txs : List Tx) (pairs : List (ℕ × ℕ)) (places : ℕ)
+    → IsSound old txs pairs places → AreInRange MAX_NAMES (bounds_of set) → IsSound set txs pairs places
+sound_limited old set txs pairs places sound in_range = record {
+  in_range = in_range;
+  small = sound.small;
+  names_once = sound.names_once;
+  pairs_once = sound.pairs_once;
+  ends = sound.ends;
+  enough = sound.enough;
+}
+
 pub stands_at_start : (kept : Kept) → kept.limits ≡ DEFAULT_LIMITS → kept.begun ≡ false
     → kept.txs ≡ [] → kept.pairs ≡ [] → StandsFor kept (plain_start MAX_NAMES)
 stands_at_start kept limits begun txs pairs = record {
@@ -208,10 +235,9 @@ pub level-main : (kept : Kept) (table : Table) (level : Level) → level_of (sta
 level-main kept table Main = refl
 level-main kept table Top = refl
 
--- no component is over the limits, which no dependency may pass
-pub not_over : (kept : Kept) (table : Table) (level : Level) → IsValid (state_of kept table) → IsOversized (state_of kept table) level → ⊥
-not_over kept table Main valid over = valid.main.within refl over
-not_over kept table Top valid over = valid.main.within refl over
+-- the sizes that a table has are those of the transactions
+pub same_sizes : (txs : List Tx) (table : Table) → HasTable txs table → size_of table ≡ sizes_in txs
+same_sizes txs table has = λ i. λ id. size_in (has.gets id i)
 
 pub steps_counted : (kept : Kept) (level : Level) (n : ℕ) → n ≡ length kept.txs → Steps kept kept (Count level) (Number n)
 steps_counted kept level n same =

@@ -3,3 +3,4 @@ pub mod Walks
 pub mod Sound
 pub mod Joins
 pub mod Rests
+pub mod Overs

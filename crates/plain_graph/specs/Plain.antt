@@ -4,7 +4,7 @@ use Rattle.std.specs.Prelude.{◌≡◌, ℕ, Bool, List, [], ◌∷◌, map, le
 use Rattle.std.specs.FinMap as finmap
 use Rattle.graph_model.specs.declared.names.Limits.{Limits}
 use Rattle.graph_model.specs.Limits.{bounds_of}
-use Rattle.graph_model.specs.States.{PlainState, Entry}
+use Rattle.graph_model.specs.States.{PlainState, Entry, size_in}
 use Rattle.graph_model.specs.Commands.{Command}
 use Rattle.graph_model.specs.Replies.{Reply}
 use Rattle.graph_model.specs.Runs.{BuiltStep}
@@ -27,6 +27,10 @@ pub record Kept : Type 0 where
 abbrev pub entry_in : List Tx → ℕ → Option Entry
 entry_in [] id = None
 entry_in (tx ∷ txs) id = if tx.id == id then Some (record { fee = tx.fee; size = tx.size }) else entry_in txs id
+
+-- the size of a name in a list of transactions; 0 where it has none
+abbrev pub sizes_in : List Tx → ℕ → ℕ
+sizes_in txs id = size_in (entry_in txs id)
 
 -- A plain graph stands for the valid state with its names in their order, its pairs and its table. No block of it was mined.
 pub record StandsFor (kept : Kept) (state : PlainState) : Type 0 where

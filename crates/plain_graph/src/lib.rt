@@ -3,6 +3,7 @@
 #![tactic(auto)]
 
 mod limits;
+mod over;
 mod pairs;
 mod plain;
 mod tx;

@@ -1,4 +1,4 @@
-ghost use Rattle.std.specs.Prelude.{◌≡◌, ◌+◌, ◌-◌, ◌*◌, ◌^◌, ◌<◌, ◌≤◌, false, [], ◌∷◌, length, IfOk, OnOk, if◌then◌else◌, is_ok, MatchResult, Contains, IsSome};
+ghost use Rattle.std.specs.Prelude.{◌≡◌, ◌↔◌, ◌+◌, ◌-◌, ◌*◌, ◌^◌, ◌<◌, ◌≤◌, false, IsTrue, [], ◌∷◌, length, IfOk, OnOk, if◌then◌else◌, is_ok, MatchResult, Contains, IsSome};
 ghost use Rattle.fee_rate.specs.declared.limits.TheConstants.{MAX_SIZE};
 ghost use Rattle.graph_model.specs.Limits.{AreInRange, bounds_of};
 ghost use Rattle.plain_graph.specs.declared.limits.TheConstants.{MAX_NAMES};
@@ -6,10 +6,12 @@ ghost use Rattle.graphs.specs.Graphs.{AreConnected};
 ghost use Rattle.plain_graph.specs.Walks.{HoldsAll};
 ghost use Rattle.plain_graph.specs.Sound.{AreSmall};
 ghost use Rattle.plain_graph.specs.Joins.{JoinRefusalIs};
+ghost use Rattle.plain_graph.specs.Overs.{WalkRefusalIs};
 ghost use Rattle.graph_model.specs.Commands.{SetLimits, Add, Dep, SetFee, Remove, Cluster, Ancestors, Descendants, Count};
 ghost use Rattle.graph_model.specs.Replies.{Number};
 
 use crate::limits::MAX_NAMES;
+use crate::over::is_over;
 use crate::pairs::without;
 use crate::tx::Tx;
 use crate::txs::{drop_name, is_live, set_fee, total_size};
@@ -25,6 +27,8 @@ pub struct Plain {
     alloc: Global,
     limits: Limits,
     begun: bool,
+    /// Whether a cluster is over the limits, where pairs may bring one over them.
+    over: bool,
     txs: Vec<Tx>,
     pairs: Vec<(TxId, TxId)>,
     found: IdBuf,
@@ -34,13 +38,13 @@ pub struct Plain {
 impl Model for Plain {
     ghost use Rattle.std.specs.Prelude.{◌+◌, length};
     ghost use Rattle.plain_graph.specs.Plain.{Kept};
-    ghost use Rattle.plain_graph.specs.Sound.{IsSound};
+    ghost use Rattle.plain_graph.specs.Overs.{IsRight};
 
     ghost Value = { Kept };
 
     ghost view = { λ a. record { limits = a.limits; begun = a.begun; txs = a.txs.items; pairs = a.pairs.items; found = a.found.ids; additions = a.additions } };
 
-    ghost invariant = { λ a. IsSound a.limits a.txs.items a.pairs.items (length a.found.ids + a.found.room) };
+    ghost invariant = { λ a. IsRight a.limits a.txs.items a.pairs.items (length a.found.ids + a.found.room) a.over };
 }
 
 /// Makes room for at least this many names, where there is less. The list is empty then.
@@ -55,7 +59,8 @@ fn make_room(found: &mut IdBuf, alloc: Global, names: usize) -> Result<(), NoMem
     Ok(())
 }
 
-/// Which limit the component breaks that a pair would make of two. Takes no memory.
+/// Which limit the component breaks that a pair would make of two; none where pairs may bring one over
+/// the limits. Takes no memory.
 fn refused_join(
     limits: &Limits,
     txs: &[Tx],
@@ -71,6 +76,9 @@ fn refused_join(
     ensures first { JoinRefusalIs limits.now txs.now pairs.now parent child result }
     ensures room { length found.new.ids + found.new.room ≡ length found.old.ids + found.old.room }
 {
+    if limits.defer {
+        return None;
+    }
     reach(found, pairs, &[parent, child], Way::Either);
     let count = found.ids().len() as u64;
     if count > limits.count {
@@ -88,6 +96,7 @@ impl Plain {
     ghost use Rattle.plain_graph.specs.Plain.{Kept, StandsFor, Steps, entry_in};
     ghost use Rattle.graph_model.specs.States.{PlainState, plain_start};
     ghost use Rattle.graph_model.specs.Refusals.{RefusalIs};
+    ghost use Rattle.graph_model.specs.Oversize.{IsOversized};
     ghost use Rattle.graphs.specs.Graphs.{Lists};
     ghost use Rattle.plain_graph.specs.Sound.{names_of};
     ghost use Rattle.plain_graph.specs.Walks.{Reaches};
@@ -102,6 +111,7 @@ impl Plain {
             alloc,
             limits: DEFAULT_LIMITS,
             begun: false,
+            over: false,
             txs: Vec::new(alloc),
             pairs: Vec::new(alloc),
             found: IdBuf::new(alloc, 64)?,
@@ -121,6 +131,7 @@ impl Plain {
             alloc: self.alloc,
             limits: self.limits,
             begun: self.begun,
+            over: self.over,
             txs,
             pairs,
             found: IdBuf::new(self.alloc, self.found.capacity())?,
@@ -152,6 +163,9 @@ impl Plain {
 
     /// Sets the limits. Takes no memory.
     ///
+    /// With `defer` a dependency may bring a cluster over the limits. Its level is oversized then, and
+    /// `cluster`, `ancestors` and `descendants` are refused until all clusters are within them again.
+    ///
     /// Refused with `Late` where a change was accepted before, limits among them, and else with
     /// `Range` where a limit is outside its range. The graph stays as it was then.
     pub fn set_limits(&mut self, limits: Limits) -> Result<(), Refusal>
@@ -162,6 +176,7 @@ impl Plain {
             return Err(why);
         }
         self.limits = limits;
+        self.over = is_over(&self.limits, &self.txs, &self.pairs, &mut self.found);
         self.begun = true;
         Ok(())
     }
@@ -211,6 +226,7 @@ impl Plain {
         if self.txs.push(Tx { id, fee, size }).is_err() {
             return Err(Refusal::Memory);
         }
+        self.over = is_over(&self.limits, &self.txs, &self.pairs, &mut self.found);
         self.begun = true;
         self.additions += 1;
         Ok(())
@@ -250,7 +266,7 @@ impl Plain {
     /// Refused, by the first of these that holds: `Unknown` with the name where the parent or the
     /// child isn't live, `Cycle` where the child is an ancestor of the parent, `Count` and
     /// `ClusterSize`, with what the cluster would have, where the pair would join two to one over a
-    /// limit, `Memory` where there is none. The graph stays as it was then.
+    /// limit that no pair may pass, `Memory` where there is none. The graph stays as it was then.
     pub fn dep(&mut self, parent: TxId, child: TxId) -> Result<(), Refusal>
         ensures step { Steps self.old self.new (Dep parent child) (change_reply result) }
         ensures additions { self.new.additions ≡ self.old.additions }
@@ -265,6 +281,7 @@ impl Plain {
         if self.pairs.push((parent, child)).is_err() {
             return Err(Refusal::Memory);
         }
+        self.over = is_over(&self.limits, &self.txs, &self.pairs, &mut self.found);
         self.begun = true;
         Ok(())
     }
@@ -316,6 +333,7 @@ impl Plain {
         };
         self.pairs = pairs;
         drop_name(&mut self.txs, id);
+        self.over = is_over(&self.limits, &self.txs, &self.pairs, &mut self.found);
         self.begun = true;
         Ok(())
     }
@@ -323,12 +341,15 @@ impl Plain {
     /// The names that walks lead to from a name, in `found`. Takes no memory.
     fn walk(&mut self, id: TxId, way: Way) -> Result<(), Refusal>
         ensures found { MatchResult result
-            (λ _. Contains (names_of self.old.txs) id × Lists (Reaches way self.old.pairs id) self.new.found)
-            (λ why. (Contains (names_of self.old.txs) id → ⊥) × (why ≡ Refusal.Unknown id)) }
+            (λ _. WalkRefusalIs self.old id None × Lists (Reaches way self.old.pairs id) self.new.found)
+            (λ why. WalkRefusalIs self.old id (Some why)) }
         ensures same { self.new ≡ record self.old { found = self.new.found } }
     {
         if !is_live(&self.txs, id) {
             return Err(Refusal::Unknown(id));
+        }
+        if self.over {
+            return Err(Refusal::Oversized);
         }
         reach(&mut self.found, &self.pairs, &[id], way);
         Ok(())
@@ -337,7 +358,8 @@ impl Plain {
     /// Finds the names of a name's cluster, itself among them, which are in `found` then: those that
     /// pairs, taken in either direction, lead to. Takes no memory.
     ///
-    /// Refused with `Unknown` exactly where the name isn't live. The graph stays as it was either way.
+    /// Refused with `Unknown` where the name isn't live, and else with `Oversized` where the level is
+    /// oversized. The graph stays as it was either way.
     pub fn cluster(&mut self, id: TxId, level: Level) -> Result<(), Refusal>
         ensures step { Steps self.old self.new (Cluster id level) (names_reply result self.new.found) }
         ensures additions { self.new.additions ≡ self.old.additions }
@@ -349,7 +371,8 @@ impl Plain {
 
     /// Finds the ancestors of a name, itself among them, which are in `found` then. Takes no memory.
     ///
-    /// Refused with `Unknown` exactly where the name isn't live. The graph stays as it was either way.
+    /// Refused with `Unknown` where the name isn't live, and else with `Oversized` where the level is
+    /// oversized. The graph stays as it was either way.
     pub fn ancestors(&mut self, id: TxId, level: Level) -> Result<(), Refusal>
         ensures step { Steps self.old self.new (Ancestors id level) (names_reply result self.new.found) }
         ensures additions { self.new.additions ≡ self.old.additions }
@@ -361,7 +384,8 @@ impl Plain {
 
     /// Finds the descendants of a name, itself among them, which are in `found` then. Takes no memory.
     ///
-    /// Refused with `Unknown` exactly where the name isn't live. The graph stays as it was either way.
+    /// Refused with `Unknown` where the name isn't live, and else with `Oversized` where the level is
+    /// oversized. The graph stays as it was either way.
     pub fn descendants(&mut self, id: TxId, level: Level) -> Result<(), Refusal>
         ensures step { Steps self.old self.new (Descendants id level) (names_reply result self.new.found) }
         ensures additions { self.new.additions ≡ self.old.additions }
@@ -371,12 +395,22 @@ impl Plain {
         self.walk(id, Way::Down)
     }
 
-    /// The names that the last accepted reading found, in rising order. They last until the next call
-    /// of `add`, `dep`, `cluster`, `ancestors` or `descendants`.
+    /// The names that the last accepted reading found, in rising order. They last until the next reading
+    /// or change of the graph.
     pub fn found(&self) -> &[TxId]
         ensures { result.now ≡ self.now.found }
     {
         self.found.ids()
+    }
+
+    /// Whether a level is oversized: one of its clusters is over the limits, which stands only where
+    /// dependencies may bring one over them. Takes no memory.
+    pub fn oversized(&self, level: Level) -> bool
+        ensures { (state : PlainState) → StandsFor self.now state → IsTrue result ↔ IsOversized state level }
+    {
+        // There is no staging, so both words speak of main.
+        let _ = level;
+        self.over
     }
 
     /// How many names a level has.

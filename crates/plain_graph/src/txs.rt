@@ -1,7 +1,6 @@
 ghost use Rattle.std.specs.Prelude.{◌≡◌, ◌≤◌, ◌↔◌, map, is_some, sum_by, length, IsTrue, Contains};
-ghost use Rattle.graph_model.specs.States.{size_in};
 ghost use Rattle.plain_graph.specs.declared.limits.TheConstants.{MAX_NAMES};
-ghost use Rattle.plain_graph.specs.Plain.{entry_in};
+ghost use Rattle.plain_graph.specs.Plain.{entry_in, sizes_in};
 ghost use Rattle.plain_graph.specs.Sound.{names_of, AreSmall};
 ghost use Rattle.plain_graph.specs.Rests.{paying, without_name};
 
@@ -23,7 +22,7 @@ pub fn is_live(txs: &[Tx], id: TxId) -> bool
 
 /// The size of the transaction of a name, in virtual bytes; 0 where there is none.
 pub fn size_of(txs: &[Tx], id: TxId) -> u64
-    ensures { result ≡ size_in (entry_in txs.now id) }
+    ensures { result ≡ sizes_in txs.now id }
 {
     for tx in txs {
         if tx.id == id {
@@ -37,7 +36,7 @@ pub fn size_of(txs: &[Tx], id: TxId) -> u64
 pub fn total_size(txs: &[Tx], ids: &[TxId]) -> u64
     requires few { length ids.now ≤ MAX_NAMES }
     requires small { AreSmall txs.now }
-    ensures { result ≡ sum_by (λ id. size_in (entry_in txs.now id)) ids.now }
+    ensures { result ≡ sum_by (sizes_in txs.now) ids.now }
 {
     let mut total = 0;
     for id in ids {

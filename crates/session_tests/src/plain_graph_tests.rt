@@ -11,6 +11,8 @@ const MOST: i64 = 2_100_000_000_000_000;
 #[derive(Clone, Copy, Debug)]
 enum Call {
     Limits(u64, u64, u64),
+    /// Limits that dependencies may pass.
+    Deferred(u64, u64, u64),
     Add(TxId, i64, u64),
     Dep(TxId, TxId),
     Fee(TxId, i64),
@@ -37,6 +39,8 @@ enum Row {
     Chain,
     /// A level has so many names.
     Count(Level, usize),
+    /// Whether a level is oversized.
+    Oversized(Level, bool),
     /// So many additions were accepted.
     Additions(u64),
 }
@@ -84,6 +88,10 @@ fn count(graph: &Plain, level: Level) -> usize {
     graph.count(level)
 }
 
+fn oversized(graph: &Plain, level: Level) -> bool {
+    graph.oversized(level)
+}
+
 fn found(graph: &Plain) -> &[TxId] {
     graph.found()
 }
@@ -100,10 +108,20 @@ fn copied(graph: &Plain) -> Result<Plain, NoMemory> {
     graph.copied()
 }
 
+fn limits(count: u64, size: u64, total: u64, defer: bool) -> Limits {
+    Limits {
+        count,
+        size,
+        total,
+        defer,
+    }
+}
+
 /// Makes a call.
 fn make(rt: &impl Abort, graph: &mut Plain, call: Call) -> Result<(), Refusal> {
     match call {
-        Call::Limits(count, size, total) => limit(graph, Limits { count, size, total }),
+        Call::Limits(count, size, total) => limit(graph, limits(count, size, total, false)),
+        Call::Deferred(count, size, total) => limit(graph, limits(count, size, total, true)),
         Call::Add(id, fee, size) => add(rt, graph, id, fee, size),
         Call::Dep(parent, child) => dep(graph, parent, child),
         Call::Fee(id, fee) => pay(graph, id, fee),
@@ -147,6 +165,7 @@ fn run(rt: &impl Abort, graph: &mut Plain, row: Row) {
         Row::AddAll(end, fee) => add_all(rt, graph, end, fee),
         Row::Chain => chain(rt, graph),
         Row::Count(level, names) => assert!(rt; count(graph, level) == names),
+        Row::Oversized(level, over) => assert!(rt; oversized(graph, level) == over),
         Row::Additions(additions) => assert!(rt; additions_of(graph) == additions),
     }
 }
@@ -288,6 +307,31 @@ const REMOVALS: [Row; 16] = [
 #[test]
 fn removals_keep_the_ancestors_of_the_others(rt: HostRuntime) -> Result<(), Fail> {
     play(&rt, rt.alloc(), &REMOVALS)
+}
+
+const OVER: [Row; 17] = [
+    Row::Does(Call::Deferred(2, 1_000, 10)),
+    Row::Does(Call::Add(1, 3, 1)),
+    Row::Does(Call::Add(2, 2, 1)),
+    Row::Does(Call::Add(3, 1, 1)),
+    Row::Does(Call::Dep(1, 2)),
+    Row::Oversized(Level::Main, false),
+    Row::Does(Call::Dep(2, 3)),
+    Row::Does(Call::Dep(1, 3)),
+    Row::Oversized(Level::Top, true),
+    Row::Count(Level::Main, 3),
+    Row::Refuses(Call::Ancestors(3, Level::Main), Refusal::Oversized),
+    Row::Refuses(Call::Cluster(9, Level::Top), Refusal::Unknown(9)),
+    Row::Refuses(Call::Add(4, 1, 1_001), Refusal::ClusterSize(1_001)),
+    Row::Does(Call::Remove(3)),
+    Row::Oversized(Level::Main, false),
+    Row::Lists(Call::Ancestors(2, Level::Main), &[1, 2]),
+    Row::Lists(Call::Cluster(1, Level::Top), &[1, 2]),
+];
+
+#[test]
+fn dependencies_pass_deferred_limits(rt: HostRuntime) -> Result<(), Fail> {
+    play(&rt, rt.alloc(), &OVER)
 }
 
 /// Changes a copy, and compares what both list.

@@ -12,6 +12,7 @@ const ROOMY: Limits = Limits {
     count: 64,
     size: 404_000,
     total: 100_000,
+    defer: false,
 };
 
 // A call of the graph. `Cluster`, `Ancestors` and `Descendants` are of main, `Top` is the cluster of the top level.
@@ -282,7 +283,12 @@ pub(crate) fn make<L: Ledger>(
     match call {
         Call::Limits(count, size, total) => limit(
             narrow_mut(rt, graph),
-            Limits { count, size, total },
+            Limits {
+                count,
+                size,
+                total,
+                defer: false,
+            },
         ),
         Call::Add(id, fee, size) => add(rt, graph, id, fee, size, steps),
         Call::Dep(parent, child) => dep(graph, parent, child, steps),

@@ -27,19 +27,24 @@ const BOUNDS: Limits = Limits {
     count: 0,
     size: 1,
     total: 18_446_744_073_709_551_615,
+    defer: false,
+};
+
+const DEFERRED: Limits = Limits {
+    count: 0,
+    size: 1,
+    total: 18_446_744_073_709_551_615,
+    defer: true,
 };
 
 const READINGS: [Reading; 33] = [
     ("", Line::Quiet),
     ("\r", Line::Quiet),
     ("#add 1 1 1", Line::Quiet),
-    (
-        "limits 0 1 18446744073709551615",
-        Line::Limits(BOUNDS, false),
-    ),
+    ("limits 0 1 18446744073709551615", Line::Limits(BOUNDS)),
     (
         "limits 0 1 18446744073709551615 defer",
-        Line::Limits(BOUNDS, true),
+        Line::Limits(DEFERRED),
     ),
     ("limits 1 1 1  defer", Line::Syntax),
     ("limits 1 1 defer", Line::Syntax),

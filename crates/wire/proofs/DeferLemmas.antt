@@ -1,5 +1,5 @@
 -- A number, and behind it a space and the word `defer`, or nothing.
-use Rattle.std.proofs.Common.{◌≡◌, ℕ, List, [], ◌∷◌, ◌++◌, refl, sym, Bool, true, false, codes, decimal}
+use Rattle.std.proofs.Common.{◌≡◌, ℕ, List, ◌∷◌, ◌++◌, refl, sym, Bool, true, false, codes, decimal}
 use Rattle.std.proofs.lemmas.Fmt.{decimal_injective}
 use Rattle.graph_model.specs.Words.{spaced}
 use Rattle.graph_model.specs.Commands.{defer_words}

@@ -1,8 +1,10 @@
 -- What a line says is what it means where its command is built; else the line is in no form.
-use Rattle.std.proofs.Common.{◌≡◌, ℕ, true, false, List, refl, subst, true≢false, sym}
+use Rattle.std.proofs.Common.{◌≡◌, ◌∙◌, ℕ, Bool, true, false, if◌then◌else◌, List, refl, subst, true≢false, sym}
+use Rattle.graph_model.specs.declared.names.Limits.{Limits}
+use Rattle.graph_model.specs.Limits.{bounds_of}
 use Rattle.graph_model.specs.Commands.{Command, IsBuilt}
 use Rattle.graph_model.specs.Commands as commands
-use Rattle.graph_model.specs.Lines.{Means, NoForm, Spells, is_quiet, without_return}
+use Rattle.graph_model.specs.Lines.{Means, NoForm, Says, Spells, is_quiet, without_return}
 use Rattle.wire.specs.declared.line.Line.{Line}
 use Rattle.wire.specs.declared.line.Line.TheVariants as lines
 use Rattle.wire.specs.Readings.{said_by, meaning_of, LineSays}
@@ -14,11 +16,15 @@ unbuilt : (bytes : List ℕ) (command : Command) → is_quiet (without_return by
 unbuilt bytes command loud spells none =
     (loud, λ other spelled built. none (subst IsBuilt (one_command (without_return bytes) other command spelled spells) built))
 
+limits_mean : (bytes : List ℕ) (set : Limits) (defer : Bool) → set.defer ≡ defer → LineSays bytes (Says (commands.SetLimits (bounds_of set)))
+    → Means bytes (if defer then NoForm else Says (commands.SetLimits (bounds_of set)))
+limits_mean bytes set true is says = unbuilt bytes (commands.SetLimits (bounds_of set)) says.0 says.1 (λ built. true≢false (sym is ∙ built))
+limits_mean bytes set false is says = (says.0, says.1, is)
+
 pub means : (bytes : List ℕ) (line : Line) (ids : List ℕ) → LineSays bytes (said_by line ids) → Means bytes (meaning_of line ids)
 means bytes lines.Quiet ids says = says
 means bytes lines.Syntax ids says = (says.0, λ command spells built. says.1 command spells)
-means bytes (lines.Limits set true) ids says = unbuilt bytes (commands.SetLimits _) says.0 says.1 (λ built. true≢false built)
-means bytes (lines.Limits set false) ids says = (says.0, says.1, refl)
+means bytes (lines.Limits set) ids says = limits_mean bytes set set.defer refl says
 means bytes lines.Mine ids says = (says.0, says.1, tt)
 means bytes lines.Evict ids says = (says.0, says.1, tt)
 means bytes lines.Trim ids says = unbuilt bytes (commands.Trim) says.0 says.1 (λ built. built)

@@ -1,5 +1,5 @@
 -- Pieces that are written one after the other.
-use Rattle.std.proofs.Common.{◌≡◌, ℕ, List, ◌++◌, decimal, Option, None, Some, Ok, Err, Result, refl, sym, append_assoc, ◌∙◌, ap, ◌∷◌, [], codes, append-nil}
+use Rattle.std.proofs.Common.{◌≡◌, ℕ, List, ◌++◌, Option, None, Some, Ok, Err, Result, refl, sym, append_assoc, ◌∙◌, ap, ◌∷◌, [], codes, append-nil}
 use Rattle.std.specs.Io.KnownBytes.{Appends}
 use Rattle.std.proofs.KnownBytes.{Appends-trans}
 use Rattle.outside.specs.Faults.{one_more}

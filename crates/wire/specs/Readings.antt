@@ -1,7 +1,8 @@
 -- What a line as the program keeps it says, with the names that it lists apart.
-use Rattle.std.specs.Prelude.{◌≡◌, ℕ, false, true, List, Option, None, Some}
+use Rattle.std.specs.Prelude.{◌≡◌, ℕ, false, true, if◌then◌else◌, List, Option, None, Some}
 use Rattle.wire.specs.declared.line.Line.{Line}
 use Rattle.wire.specs.declared.line.Line.TheVariants as lines
+use Rattle.graph_model.specs.Limits.{bounds_of}
 use Rattle.graph_model.specs.Commands.{Command}
 use Rattle.graph_model.specs.Commands as commands
 use Rattle.graph_model.specs.Lines.{Meaning, Quiet, Says, NoForm, Spells, without_return, is_quiet}
@@ -9,7 +10,7 @@ use Rattle.graph_model.specs.Lines.{Meaning, Quiet, Says, NoForm, Spells, withou
 abbrev pub said_by : Line → List ℕ → Meaning
 said_by lines.Quiet ids = Quiet
 said_by lines.Syntax ids = NoForm
-said_by (lines.Limits set defer) ids = Says (commands.SetLimits (record { count = set.count; size = set.size; total = set.total; defer = defer }))
+said_by (lines.Limits set) ids = Says (commands.SetLimits (bounds_of set))
 said_by (lines.Add id fee size) ids = Says (commands.Add id fee size)
 said_by (lines.Dep parent child) ids = Says (commands.Dep parent child)
 said_by (lines.Fee id fee) ids = Says (commands.SetFee id fee)
@@ -37,7 +38,7 @@ said_by lines.Dump ids = Says commands.Dump
 
 -- The meaning as far as the program does commands: a line of one that isn't built yet is in no form. These rows go with the bodies.
 abbrev pub meaning_of : Line → List ℕ → Meaning
-meaning_of (lines.Limits set true) ids = NoForm
+meaning_of (lines.Limits set) ids = if set.defer then NoForm else Says (commands.SetLimits (bounds_of set))
 meaning_of lines.Trim ids = NoForm
 meaning_of lines.Unmine ids = NoForm
 meaning_of lines.Dump ids = NoForm

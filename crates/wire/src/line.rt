@@ -17,9 +17,9 @@ pub enum Line {
     Quiet,
     /// A line that is no command.
     Syntax,
-    /// `limits N N N`: the names of a cluster, its size, the live names. True where a last word `defer` lets dependencies bring a
-    /// cluster over the first two for a while.
-    Limits(Limits, bool),
+    /// `limits N N N`: the names of a cluster, its size, the live names. A last word `defer` lets dependencies bring a cluster over the
+    /// first two for a while.
+    Limits(Limits),
     /// `add ID FEE SIZE`
     Add(TxId, i64, u64),
     /// `dep ID ID`, the parent first
@@ -191,7 +191,12 @@ fn fields(form: Form, rest: &[u8]) -> Option<Line>
     match form {
         Form::Limits => {
             let (count, (size, Deferrable { n: total, defer })) = Field::read(rest)?;
-            Some(Line::Limits(Limits { count, size, total }, defer))
+            Some(Line::Limits(Limits {
+                count,
+                size,
+                total,
+                defer,
+            }))
         }
         Form::Add => {
             let (id, (fee, size)) = Field::read(rest)?;

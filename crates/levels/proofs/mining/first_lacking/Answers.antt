@@ -30,7 +30,7 @@ pub returns-clause-first : goal.returns-clause-first
 returns-clause-first g c =
     finds_listed c.args.ids.now c.args.rings.now c.touch_all.new.self c.touch_all.ensures
     (none_touched c.args.rings.now c.args.shelves.now c.requires.right c.requires.alone)
-    (graph_of (view_of Main c.args.shelves.now)) c.first_untouched-found.result c.first_untouched-found.ensures
+    (graph_of (view_of Main c.args.shelves.now)) c.first_untouched-found.result c.first_untouched-found.ensures.first
 
 pub returns-clause-keeps : goal.returns-clause-keeps
 returns-clause-keeps g c =

@@ -1,10 +1,13 @@
 -- A cluster of one name comes in, and the rings gain the name.
-use Rattle.std.proofs.Common.{◌≤◌, ◌*◌, ◌++◌, ℤ, List, [], ◌∷◌, Some, sym, ap, ◌∙◌, subst, arith}
+use Rattle.std.proofs.Common.{◌≤◌, ◌*◌, ◌++◌, ℤ, Contains, List, [], ◌∷◌, Some, sym, subst, arith}
 use Rattle.std.proofs.lemmas.Int.{to_z-of_z}
 use Rattle.std.specs.Int.{w64}
 use Rattle.graphs.specs.declared.names.Level.TheVariants.{Top}
 use Rattle.cluster.specs.Changes.{IsSingle}
-use Rattle.cluster.specs.Clusters.{Cluster, IsCluster}
+use Rattle.cluster.specs.Clusters.{Cluster}
+use Rattle.record.specs.Records.{IsFitted}
+use Rattle.levels.proofs.Making.{all_one}
+use Rattle.levels.proofs.Ordered.{fitted_record}
 use Rattle.fee_rate.specs.Limits.{IsRate}
 use Rattle.name_book.proofs.Named.{named-same}
 use Rattle.levels.specs.Kept.{SuitsShelf}
@@ -13,7 +16,7 @@ use Rattle.levels.specs.Changes.{AreAt, Covers}
 use Rattle.levels.specs.Shelves.{Shelf, numbers_at, seen_at}
 use Rattle.levels.specs.Tops.{IsMade}
 use Rattle.levels.proofs.Gaining.{absent_main, absent_top, adds_made, comes_new, none_kept, right_gained, right_reserved}
-use Rattle.levels.proofs.Rooms.{cluster_fits, record_fits, work_fits}
+use Rattle.levels.proofs.Rooms.{record_fits, work_fits}
 use Rattle.levels.proofs.moving.add_name.Given as given
 use Rattle.levels.proofs.moving.add_name.Goals as goal
 
@@ -29,7 +32,7 @@ pub single-requires : goal.single-requires
 single-requires g c = (
   work_fits g.row.W c.requires.order.narrow,
   (
-    cluster_fits g.row.W c.requires.order.narrow,
+    record_fits g.row.W c.requires.order.narrow,
     subst (λ (fee : ℤ). IsRate (record { fee = fee; size = c.args.size }))
         (sym (to_z-of_z w64 c.args.fee c.ranges.fee)) c.requires.rate,
   ),
@@ -38,9 +41,9 @@ single-requires g c = (
 pub rebuild-requires : goal.rebuild-requires
 rebuild-requires g c =
     let narrow : g.row.W ≤ 2 = c.requires.order.narrow in
-    let cluster = c.within.result in
-    let whole = subst (IsCluster (64 * g.row.W)) (sym c.within.ensures) c.in_ok-cluster.ensures.whole in
-    let names = ap (λ (k : Cluster). k.names) c.within.ensures ∙ c.in_ok-cluster.ensures.single.names in
+    let cluster = c.in_ok-cluster.cluster in
+    let fitted = c.in_ok-cluster.ensures.fitted c.args.shelves.now.limits c.requires.order.in_range.count_low c.requires.fits in
+    let names = c.in_ok-cluster.ensures.single.names in
     let numbers = numbers_at Top c.args.shelves.now in
     let absent = absent_top c.args.rings.now c.args.shelves.now c.args.id c.requires.right c.requires.absent in (
       omega arith,
@@ -51,8 +54,15 @@ rebuild-requires g c =
           (
             subst (λ (xs : List Cluster). (olds : List Cluster) × AreAt (seen_at Top c.args.shelves.now.store.clusters) [] olds
                 × Covers (64 * g.row.W) olds (xs ++ cluster ∷ []) [] numbers) (sym c.new.ensures.items)
-                (comes_new g.row.W c.args.id cluster c.args.shelves.now whole names absent),
-            (none_kept cluster.names numbers, c.requires.order),
+                (comes_new g.row.W c.args.id cluster c.args.shelves.now (fitted_record (64 * g.row.W) c.args.shelves.now.limits cluster fitted) names absent),
+            (
+              none_kept cluster.names numbers,
+              (
+                subst (λ (xs : List Cluster). (d : Cluster) → Contains (xs ++ cluster ∷ []) d → IsFitted (64 * g.row.W) c.args.shelves.now.limits d)
+                    (sym c.new.ensures.items) (all_one (IsFitted (64 * g.row.W) c.args.shelves.now.limits) cluster fitted),
+                c.requires.order,
+              ),
+            ),
           ),
         ),
       ),
@@ -73,12 +83,11 @@ add-requires-clause-absent g c =
 
 adds : (g : given.Over) (c : goal.After-add g) → AddsTop g.row.W c.args.id (record { fee = c.args.fee; size = c.args.size }) c.args.shelves.now c.rebuild.new.self
 adds g c =
-    adds_made g.row.W c.args.id (record { fee = c.args.fee; size = c.args.size }) c.in_ok-rebuild.field-0.rest.items c.in_ok-rebuild.field-0.last c.within.result c.args.shelves.now c.rebuild.new.self
-    (subst (λ (k : Cluster). IsSingle c.args.id (record { fee = c.args.fee; size = c.args.size }) k) (sym c.within.ensures)
+    adds_made g.row.W c.args.id (record { fee = c.args.fee; size = c.args.size }) c.in_ok-rebuild.field-0.rest.items c.in_ok-rebuild.field-0.last c.in_ok-cluster.cluster c.args.shelves.now c.rebuild.new.self
     (subst (λ (fee : ℤ). IsSingle c.args.id (record { fee = fee; size = c.args.size }) c.in_ok-cluster.cluster) (to_z-of_z w64 c.args.fee c.ranges.fee)
-    c.in_ok-cluster.ensures.single))
+    c.in_ok-cluster.ensures.single)
     (absent_top c.args.rings.now c.args.shelves.now c.args.id c.requires.right c.requires.absent)
-    (subst (λ (xs : List Cluster). IsMade g.row.W [] c.in_ok-rebuild.field-0.rest.items c.in_ok-rebuild.field-0.last xs (Some c.within.result) []
+    (subst (λ (xs : List Cluster). IsMade g.row.W [] c.in_ok-rebuild.field-0.rest.items c.in_ok-rebuild.field-0.last xs (Some c.in_ok-cluster.cluster) []
     c.args.shelves.now c.rebuild.new.self) c.new.ensures.items c.in_ok-rebuild.ensures.rebuilt)
 
 pub returns-clause-added : goal.returns-clause-added

@@ -14,20 +14,20 @@ use Rattle.levels.proofs.moving.connect.Goals as goal
 pub returns-in_err-pair-in-Between-clause-still : goal.returns-in_err-pair-in-Between-clause-still
 returns-in_err-pair-in-Between-clause-still g c up =
     absurd (not_between g.row.W c.args.shelves.now c.args.parent c.args.child c.in-Between.first c.in-Between.second
-    (subst (IsLink g.row.W c.args.shelves.now c.args.parent c.args.child) c.in-Between.is c.requires.link) c.requires.order up)
+    (subst (IsLink c.args.shelves.now c.args.parent c.args.child) c.in-Between.is c.requires.link) c.requires.order up)
 
 -- a pair between two clusters makes no ancestor that was one
 pub returns-in_ok-pair-in-Between-clause-still : goal.returns-in_ok-pair-in-Between-clause-still
 returns-in_ok-pair-in-Between-clause-still g c up =
     absurd (not_between g.row.W c.args.shelves.now c.args.parent c.args.child c.in-Between.first c.in-Between.second
-    (subst (IsLink g.row.W c.args.shelves.now c.args.parent c.args.child) c.in-Between.is c.requires.link) c.requires.order up)
+    (subst (IsLink c.args.shelves.now c.args.parent c.args.child) c.in-Between.is c.requires.link) c.requires.order up)
 
 pub returns-in_ok-pair-in-Within-clause-linked : goal.returns-in_ok-pair-in-Within-clause-linked
 returns-in_ok-pair-in-Within-clause-linked g c =
     let old = c.args.shelves.now in
     let new = c.rebuild.new.shelves in
     let news = c.in_ok-pair-in-Within.pair in
-    let way = subst (IsLink g.row.W old c.args.parent c.args.child) c.in-Within.is c.requires.link in
+    let way = subst (IsLink old c.args.parent c.args.child) c.in-Within.is c.requires.link in
     on_ok c.rebuild.result c.rebuild.ensures.rebuilt (λ made. inr (
       way.2,
       (
@@ -43,7 +43,7 @@ returns-in_ok-pair-in-Between-clause-linked g c =
     let new = c.rebuild-in-Between.new.shelves in
     let news = c.in_ok-pair-in-Between.pair in
     let outs = c.in-Between.first ∷ c.in-Between.second ∷ [] in
-    let way = subst (IsLink g.row.W old c.args.parent c.args.child) c.in-Between.is c.requires.link in
+    let way = subst (IsLink old c.args.parent c.args.child) c.in-Between.is c.requires.link in
     on_ok c.rebuild-in-Between.result c.rebuild-in-Between.ensures.rebuilt (λ made. inr (
       false_from_ne_true (is_ancestor (graph_of (view_of Top old)) c.args.parent c.args.child)
           (not_between g.row.W old c.args.parent c.args.child c.in-Between.first c.in-Between.second way c.requires.order),

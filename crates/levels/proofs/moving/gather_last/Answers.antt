@@ -20,7 +20,7 @@ Stands g c number =
 pub gather-requires-clause-apart : goal.gather-requires-clause-apart
 gather-requires-clause-apart g c =
     let stored = c.names-names.ensures in
-    let once : AreDistinct c.names-names.result.now = subst AreDistinct (sym stored.names) stored.whole.once in
+    let once : AreDistinct c.names-names.result.now = subst AreDistinct (sym stored.names) stored.«record».connected.once in
     let some : 1 ≤ c.args.kept = (subst (λ o. IfSome o (Stands g c)) c.in-Some.is c.requires.there).2 in
     subst (λ (xs : List ℕ). Contains xs (slice_index c.names-names.result.now 0) → ⊥) (sym c.split_at.ensures.back)
     (head_once c.names-names.result.now c.args.kept once some (omega (arith, c.if-kept-names.true)))

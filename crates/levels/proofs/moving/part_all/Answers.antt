@@ -6,7 +6,7 @@ use Rattle.levels.specs.Shelves.{stored_at}
 use Rattle.levels.proofs.Cutting.{AreCut, cut_next, listed}
 use Rattle.name_book.proofs.Named.{named-same}
 use Rattle.levels.proofs.Pointing.{got_here, one_at}
-use Rattle.levels.proofs.Rooms.{cluster_fits}
+use Rattle.levels.proofs.Rooms.{record_fits}
 use Rattle.levels.proofs.moving.part_all.Goals as goal
 
 pub at-requires : goal.at-requires
@@ -14,7 +14,7 @@ at-requires g c =
     let narrow : g.row.W ≤ 2 = c.requires.order.narrow in
     let low : c.loop-number.number-index < length c.args.list.now = c.loop-number-test.true in
     let one = one_at (stored_at c.args.shelves.now.store.clusters) c.args.list.now c.requires.clusters.0 c.loop-number.number-index c.requires.clusters.1 low in
-    (omega arith, (cluster_fits g.row.W narrow, ap is_some one.2))
+    (omega arith, (record_fits g.row.W narrow, ap is_some one.2))
 
 pub part-requires-clause-live : goal.part-requires-clause-live
 part-requires-clause-live g c x here =
@@ -52,4 +52,4 @@ returns-clause-main g c clusters x y are =
     (c.loop-number.invariant.main clusters are) x y
 
 pub names-requires : goal.names-requires
-names-requires g c = cluster_fits g.row.W c.requires.order.narrow
+names-requires g c = record_fits g.row.W c.requires.order.narrow

@@ -1,1 +1,0 @@
-use Rattle.levels.proofs.left.Left.take.Goals as goal

@@ -3,11 +3,13 @@ use Rattle.std.proofs.Common.{rules, ◌+◌, ◌≤◌, ℤ, sym, subst, of_z, 
 use Rattle.std.proofs.lemmas.Int.{to_z-of_z}
 use Rattle.std.specs.Int.{w64}
 use Rattle.fee_rate.specs.Limits.{IsRate}
+use Rattle.graph_model.specs.declared.names.Limits.{Limits}
 use Rattle.graphs.specs.declared.names.Level.TheVariants.{Top}
 use Rattle.levels.specs.Levels.{AddsName, level_at, Levels}
 use Rattle.levels.specs.Shelves.{Shelf, levels_of}
 use Rattle.levels.proofs.Adding.{absent_named, few_named, kept_added, kept_still, levels_added, name_stays}
-use Rattle.levels.proofs.Finds.{have_picks}
+use Rattle.levels.proofs.Finds.{limits_is}
+use Rattle.levels.proofs.Oversizing.{have_picks}
 use Rattle.levels.proofs.Keeping.{tops_few}
 use Rattle.levels.proofs.Rooms.{work_fits}
 use Rattle.levels.proofs.Unmoved.{same_all_stay}
@@ -32,9 +34,12 @@ add_name-requires g c =
               (
                 subst (λ (fee : ℤ). IsRate (record { fee = fee; size = c.args.size })) (sym (to_z-of_z w64 c.args.fee c.ranges.fee)) c.requires.in_range,
                 (
+                  subst (λ (l : Limits). c.args.size ≤ l.size) (limits_is g.row.W c.self.inside.issued c.self.inside.shelves c.args.self.now c.self.invariant.order c.self.view_is) c.requires.fits,
+                (
                   few_named g.row.W c.self.inside.mains c.self.inside.tops c.self.inside.issued old rings c.self.invariant c.args.self.now c.self.view_is
                       c.requires.few,
                   omega (arith, c.requires.issued, c.self.invariant.issued, ap (λ (l : Levels). l.issued) c.self.view_is),
+                ),
                 ),
               ),
             ),

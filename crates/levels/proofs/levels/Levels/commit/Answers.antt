@@ -10,4 +10,4 @@ close-requires g c =
 pub returns : goal.returns
 returns g c =
     levels_closed g.row.W c.self.inside.issued c.self.inside.shelves c.close.new.self c.args.self.now c.self.invariant.order c.close.ensures.order
-    c.self.view_is Top c.close.ensures.main c.close.ensures.staging c.close.ensures.seen
+    c.self.view_is Top c.close.ensures.main c.close.ensures.staging c.close.ensures.limits c.close.ensures.seen

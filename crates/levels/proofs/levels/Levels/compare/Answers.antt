@@ -2,7 +2,7 @@ use Rattle.std.proofs.Common.{rules, ◌≡◌, ℕ, true, sym, subst, subst₂}
 use Rattle.fee_rate.specs.Limits.{IsRate}
 use Rattle.graphs.specs.Closures.{is_member, rate_of}
 use Rattle.levels.specs.Levels.{OneLevel}
-use Rattle.levels.proofs.Finds.{level_is}
+use Rattle.levels.proofs.Finds.{both_at, level_is}
 use Rattle.levels.proofs.Keeping.{few_kept}
 use Rattle.levels.proofs.Summing.{rated}
 use Rattle.graphs.specs.declared.names.Level.TheVariants.{Main, Top}
@@ -14,7 +14,10 @@ compare-requires g c = (
   search rules,
   (
     c.self.invariant.order,
-    few_kept g.row.W c.self.inside.mains c.self.inside.tops c.self.inside.issued c.self.inside.shelves c.self.inside.rings c.self.invariant,
+    (
+      both_at g.row.W c.self.inside.issued c.self.inside.shelves c.args.self.now c.self.invariant.order c.self.view_is c.requires.within,
+      few_kept g.row.W c.self.inside.mains c.self.inside.tops c.self.inside.issued c.self.inside.shelves c.self.inside.rings c.self.invariant,
+    ),
   ),
 )
 

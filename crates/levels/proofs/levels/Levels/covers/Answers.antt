@@ -2,7 +2,7 @@ use Rattle.std.proofs.Common.{sym, subst, arith, ◌≡◌, true}
 use Rattle.graph_model.specs.Answers.{order_of}
 use Rattle.levels.specs.Levels.{OneLevel}
 use Rattle.levels.specs.Orders.{ListsCovers}
-use Rattle.levels.proofs.Finds.{level_is, graph_is}
+use Rattle.levels.proofs.Finds.{level_is, graph_is, within_at}
 use Rattle.levels.proofs.Rooms.{covers_fits}
 use Rattle.graphs.specs.Closures.{Closure, is_member}
 use Rattle.levels.proofs.levels.Levels.covers.Goals as goal
@@ -19,8 +19,11 @@ covers-requires g c = (
     covers_fits g.row.W c.self.invariant.order.narrow,
     (
       c.self.invariant.order,
+      (
+      within_at g.row.W c.self.inside.issued c.self.inside.shelves c.args.self.now c.self.invariant.order c.self.view_is c.args.level c.requires.within,
       subst (λ (h : Closure). is_member h c.args.id ≡ true)
-          (graph_is g.row.W c.self.inside.issued c.self.inside.shelves c.args.self.now c.self.invariant.order c.self.view_is c.args.level) c.requires,
+          (graph_is g.row.W c.self.inside.issued c.self.inside.shelves c.args.self.now c.self.invariant.order c.self.view_is c.args.level) c.requires.live,
+      ),
     ),
   ),
 )

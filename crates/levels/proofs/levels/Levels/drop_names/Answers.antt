@@ -1,5 +1,5 @@
 -- Names that the top level has are dropped from it.
-use Rattle.std.proofs.Common.{arith, ◌∙◌, sym, ap, subst, subst₂}
+use Rattle.std.proofs.Common.{arith, ◌∙◌, sym, ap, subst₂}
 use Rattle.graphs.specs.Closures.{Closure}
 use Rattle.graphs.specs.declared.names.Level.TheVariants.{Top}
 use Rattle.levels.specs.Kept.{IsKept}
@@ -7,7 +7,10 @@ use Rattle.levels.specs.Lefts.{DropsWithin}
 use Rattle.levels.specs.Levels.{LosesNames}
 use Rattle.levels.specs.Rings.{Ringed}
 use Rattle.levels.specs.Shelves.{levels_of, Shelf}
-use Rattle.levels.proofs.Finds.{graph_is, have_picks, member_is}
+use Rattle.graph_model.specs.declared.names.Limits.{Limits}
+use Rattle.levels.proofs.Finds.{graph_is, limits_is, member_is}
+use Rattle.levels.proofs.Keeping.{few_kept}
+use Rattle.levels.proofs.Oversizing.{have_picks}
 use Rattle.levels.proofs.Rooms.{work_fits}
 use Rattle.levels.proofs.Tallies.{tops_less, top_turned}
 use Rattle.levels.proofs.Turned.{kept_dropped, stays_from, turns_from}
@@ -25,9 +28,12 @@ drop_names-requires g c = (
       (
         c.self.invariant.right,
         (
+          few_kept g.row.W c.self.inside.mains c.self.inside.tops c.self.inside.issued c.self.inside.shelves c.self.inside.rings c.self.invariant,
+          (
           λ id here. sym (member_is g.row.W c.self.inside.issued c.self.inside.shelves c.args.self.now c.self.invariant.order c.self.view_is Top id)
               ∙ c.requires.live id here,
           c.requires.once,
+          ),
         ),
       ),
     ),
@@ -49,7 +55,8 @@ returns-in_err-drop_names-clause-kept g c = (
 
 pub returns-in_err-drop_names-clause-steps : goal.returns-in_err-drop_names-clause-steps
 returns-in_err-drop_names-clause-steps g c =
-    subst (λ (h : Closure). DropsWithin c.args.ids.now h c.args.steps.now c.drop_names.new.steps)
+    subst₂ (λ (l : Limits) (h : Closure). DropsWithin l c.args.ids.now h c.args.steps.now c.drop_names.new.steps)
+    (sym (limits_is g.row.W c.self.inside.issued c.self.inside.shelves c.args.self.now c.self.invariant.order c.self.view_is))
     (sym (graph_is g.row.W c.self.inside.issued c.self.inside.shelves c.args.self.now c.self.invariant.order c.self.view_is Top)) c.drop_names.ensures.steps
 
 pub overflow_sub-self : goal.overflow_sub-self
@@ -95,5 +102,6 @@ returns-clause-kept g c =
 
 pub returns-clause-steps : goal.returns-clause-steps
 returns-clause-steps g c =
-    subst (λ (h : Closure). DropsWithin c.args.ids.now h c.args.steps.now c.drop_names.new.steps)
+    subst₂ (λ (l : Limits) (h : Closure). DropsWithin l c.args.ids.now h c.args.steps.now c.drop_names.new.steps)
+    (sym (limits_is g.row.W c.self.inside.issued c.self.inside.shelves c.args.self.now c.self.invariant.order c.self.view_is))
     (sym (graph_is g.row.W c.self.inside.issued c.self.inside.shelves c.args.self.now c.self.invariant.order c.self.view_is Top)) c.drop_names.ensures.steps

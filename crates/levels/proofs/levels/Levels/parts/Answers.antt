@@ -5,7 +5,7 @@ use Rattle.diagram.specs.Parts.{AreLevelParts}
 use Rattle.levels.specs.Levels.{OneLevel, IsBest}
 use Rattle.levels.specs.Orders.{sums_of}
 use Rattle.levels.specs.Views.{HaveClusterNumbers}
-use Rattle.levels.proofs.Finds.{level_is}
+use Rattle.levels.proofs.Finds.{level_is, within_at}
 use Rattle.levels.proofs.Keeping.{few_kept}
 use Rattle.levels.proofs.Rooms.{stored_fits}
 use Rattle.levels.proofs.levels.Levels.parts.Goals as goal
@@ -18,7 +18,10 @@ parts-requires g c =
         stored_fits g.row.W narrow,
         (
           c.self.invariant.order,
+          (
+            within_at g.row.W c.self.inside.issued c.self.inside.shelves c.args.self.now c.self.invariant.order c.self.view_is c.args.level c.requires,
           few_kept g.row.W c.self.inside.mains c.self.inside.tops c.self.inside.issued c.self.inside.shelves c.self.inside.rings c.self.invariant c.args.level,
+          ),
         ),
       ),
     )

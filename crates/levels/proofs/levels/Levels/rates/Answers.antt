@@ -6,7 +6,7 @@ use Rattle.fee_rate.specs.declared.rates.FeeRate.{FeeRate}
 use Rattle.diagram.specs.Parts.{AreLevelParts, rate_of as part_rate, sums_of}
 use Rattle.diagram.proofs.StepLemmas.{always_first}
 use Rattle.levels.specs.Levels.{OneLevel, level_at}
-use Rattle.levels.proofs.Finds.{level_is}
+use Rattle.levels.proofs.Finds.{level_is, within_at}
 use Rattle.levels.proofs.Keeping.{few_kept}
 use Rattle.levels.proofs.Summing.{level_parts, rated}
 use Rattle.levels.proofs.levels.Levels.rates.Goals as goal
@@ -27,6 +27,7 @@ returns-clause-yields g c =
       yields = always_first {A = FeeRate} part_rate c.rates.result (sums_of (level_at c.args.self.now c.args.level).parts) same;
       level = subst AreLevelParts (sym c.rates.ensures ∙ same)
           (level_parts g.row.W c.self.inside.shelves c.self.invariant.order c.args.level
+          (within_at g.row.W c.self.inside.issued c.self.inside.shelves c.args.self.now c.self.invariant.order c.self.view_is c.args.level c.requires)
           (few_kept g.row.W c.self.inside.mains c.self.inside.tops c.self.inside.issued c.self.inside.shelves c.self.inside.rings c.self.invariant
           c.args.level));
     }

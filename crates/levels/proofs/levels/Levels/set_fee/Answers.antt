@@ -3,7 +3,7 @@ use Rattle.std.proofs.Common.{◌≤◌, sym, subst, of_z, to_z, arith}
 use Rattle.std.specs.Int.{w64}
 use Rattle.std.proofs.lemmas.Int.{to_z-of_z}
 use Rattle.fee_rate.specs.Limits.{IsFee}
-use Rattle.levels.proofs.Finds.{have_picks}
+use Rattle.levels.proofs.Oversizing.{have_picks}
 use Rattle.levels.proofs.Repriced.{have_fee, kept_repriced, levels_failed, levels_priced, levels_same, levels_stay, live_numbered, one_rate, told_fee}
 use Rattle.levels.proofs.Rooms.{work_fits}
 use Rattle.levels.proofs.levels.Levels.set_fee.Goals as goal

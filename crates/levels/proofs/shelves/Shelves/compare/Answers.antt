@@ -16,7 +16,7 @@ compare-requires g c =
       (
         narrow,
         subst (λ (s : Store). (level : Level) → FitTogether (sums_of (parts_of_level level s))) (sym c.store.ensures)
-            (λ level. level_pays g.row.W c.args.self.now c.requires.order level (c.requires.few level)),
+            (λ level. level_pays g.row.W c.args.self.now c.requires.order level (c.requires.within level) (c.requires.few level)),
       ),
     )
 

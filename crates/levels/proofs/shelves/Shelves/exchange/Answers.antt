@@ -20,10 +20,10 @@ exchange-requires g c =
 
 module _ (g : given.Over) (c : goal.After-exchange g) where
   abbrev old : Shelf
-  old = shelf_of c.self.inside.numbers c.self.inside.store
+  old = shelf_of c.self.inside.limits c.self.inside.numbers c.self.inside.store
 
   abbrev new : Shelf
-  new = shelf_of c.self.inside.numbers c.exchange.new.self
+  new = shelf_of c.self.inside.limits c.self.inside.numbers c.exchange.new.self
 
   same : HaveSameNames g.row.W c.args.exchanged.items old
   same = subst (λ (s : Shelf). HaveSameNames g.row.W c.args.exchanged.items s) (sym c.self.view_is) c.requires.same
@@ -32,8 +32,8 @@ module _ (g : given.Over) (c : goal.After-exchange g) where
   in_order =
       by_result c.exchange.result c.exchange.ensures.exchanged c.exchange.ensures.err
       (λ x. order_exchanged g.row.W c.args.exchanged.items old new c.self.invariant same x
-      (λ level. same_numbers level c.self.inside.numbers c.self.inside.store c.exchange.new.self) c.exchange.ensures.store refl)
-      (λ still. subst (λ (s : Store). IsInOrder g.row.W (shelf_of c.self.inside.numbers s)) (sym still) c.self.invariant)
+      (λ level. same_numbers level c.self.inside.limits c.self.inside.numbers c.self.inside.store c.exchange.new.self) c.exchange.ensures.store refl refl)
+      (λ still. subst (λ (s : Store). IsInOrder g.row.W (shelf_of c.self.inside.limits c.self.inside.numbers s)) (sym still) c.self.invariant)
 
 pub invariant_of-self : goal.invariant_of-self
 invariant_of-self g c = in_order g c
@@ -45,7 +45,8 @@ returns-clause-exchanged g c =
     c.exchange.ensures.exchanged
 
 pub returns-clause-numbers : goal.returns-clause-numbers
-returns-clause-numbers g c = (ap (λ (s : Shelf). s.main) c.self.view_is, ap (λ (s : Shelf). s.staging) c.self.view_is)
+returns-clause-numbers g c =
+    (ap (λ (s : Shelf). s.main) c.self.view_is, ap (λ (s : Shelf). s.staging) c.self.view_is, ap (λ (s : Shelf). s.limits) c.self.view_is)
 
 pub returns-clause-order : goal.returns-clause-order
 returns-clause-order g c = in_order g c

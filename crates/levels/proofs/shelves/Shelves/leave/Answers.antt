@@ -21,7 +21,7 @@ leave_run-requires g c =
     was.rest.items was.last c.loop-coming.coming.now c.args.steps.now c.loop-coming.steps c.loop-coming.invariant c.run_length.result
     c.run_length.ensures.low c.run_length.ensures.some c.run_length.ensures.same c.run_length.ensures.other _ refl
     c.split_at.result.0.now c.split_at.result.1.now c.split_at.ensures.front c.split_at.ensures.back in
-    (omega arith, (left_fits g.row.W c.requires.order.narrow, (work_fits g.row.W c.requires.order.narrow, (c.requires.order, run))))
+    (omega arith, (left_fits g.row.W c.requires.order.narrow, (work_fits g.row.W c.requires.order.narrow, (c.requires.order, (c.requires.few, run)))))
 
 pub loop-coming-preserved : goal.loop-coming-preserved
 loop-coming-preserved g c =
@@ -44,7 +44,7 @@ returns-in_err-leave_run-clause-steps g c =
     c.leave_run.ensures.steps
 
 pub returns-in_err-listed-clause-steps : goal.returns-in_err-listed-clause-steps
-returns-in_err-listed-clause-steps g c = no_steps c.args.ids.now (graph_of (view_of Top c.args.self.now)) c.args.steps.now
+returns-in_err-listed-clause-steps g c = no_steps c.args.self.now.limits c.args.ids.now (graph_of (view_of Top c.args.self.now)) c.args.steps.now
 
 pub returns-clause-left : goal.returns-clause-left
 returns-clause-left g c =

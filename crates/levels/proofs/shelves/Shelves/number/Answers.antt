@@ -11,8 +11,8 @@ use Rattle.levels.proofs.shelves.Shelves.number.Goals as goal
 
 pub returns-clause-stands : goal.returns-clause-stands
 returns-clause-stands g c =
-    let old = shelf_of c.self.inside.numbers c.self.inside.store in
-    let told = numbers_told c.args.level c.self.inside.numbers c.self.inside.store in
+    let old = shelf_of c.self.inside.limits c.self.inside.numbers c.self.inside.store in
+    let told = numbers_told c.args.level c.self.inside.limits c.self.inside.numbers c.self.inside.store in
     subst (λ (s : Shelf).
     IfSome c.number_of.result (λ number. (e : Cluster) × (seen_at c.args.level s.store.clusters number ≡ Some e) × Contains e.names c.args.id))
     c.self.view_is

@@ -9,6 +9,7 @@ use Rattle.staging.specs.Maps.{top_of}
 use Rattle.levels.specs.Changes.{AreAt, Covers, Loses, Points}
 use Rattle.levels.specs.Shelves.{IsInOrder, Shelf, numbers_at, seen_at, stored_at}
 use Rattle.levels.specs.Tops.{HasFront, IsMade}
+use Rattle.record.specs.Records.{IsFitted}
 use Rattle.levels.specs.Views.{Numbers}
 use Rattle.levels.proofs.Calls.{Turns, none_staged, same_top, shelf_of, turns_by, turns_same, turns_then}
 use Rattle.levels.proofs.Pointing.{names_in}
@@ -85,10 +86,10 @@ point_last-requires g c =
 
 module _ (g : given.Over) (c : goal.After-point_last g) where
   abbrev old : Shelf
-  old = shelf_of c.self.inside.numbers c.self.inside.store
+  old = shelf_of c.self.inside.limits c.self.inside.numbers c.self.inside.store
 
   abbrev new : Shelf
-  new = shelf_of c.point_last.new.numbers c.rebuild.new.self
+  new = shelf_of c.self.inside.limits c.point_last.new.numbers c.rebuild.new.self
 
   abbrev made : List ℕ
   made = c.in_ok-made.made.rest.items
@@ -143,15 +144,16 @@ module _ (g : given.Over) (c : goal.After-point_last g) where
 
   rebuilt : IsMade g.row.W c.args.outs.now made c.in_ok-made.made.last rest c.args.last c.args.gone.now old new
   rebuilt =
-      is_made g.row.W c.args.kept c.staged-staged.result c.args.outs.now made c.in_ok-made.made.last rest c.args.last c.args.gone.now c.requires.comes.0
+      is_made g.row.W c.args.kept c.self.inside.limits c.staged-staged.result c.args.outs.now made c.in_ok-made.made.last rest c.args.last c.args.gone.now c.requires.comes.0
       c.self.inside.numbers c.point_last.new.numbers (top_of c.unpoint.new.numbers) (top_of c.point_all.new.numbers) c.self.inside.store
       c.rebuild.new.self turns c.staged-staged.ensures changes taken are
 
   in_order : IsInOrder g.row.W new
   in_order =
-      order_made g.row.W c.args.kept c.staged-staged.result c.args.outs.now made c.in_ok-made.made.last rest c.args.last c.args.gone.now c.requires.comes.0
+      order_made g.row.W c.args.kept c.self.inside.limits c.staged-staged.result c.args.outs.now made c.in_ok-made.made.last rest c.args.last c.args.gone.now c.requires.comes.0
       c.self.inside.numbers c.point_last.new.numbers (top_of c.unpoint.new.numbers) (top_of c.point_all.new.numbers) c.self.inside.store
-      c.rebuild.new.self turns c.staged-staged.ensures changes taken are c.self.invariant c.in_ok-made.ensures.store
+      c.rebuild.new.self turns c.staged-staged.ensures changes taken are c.self.invariant
+      (λ d here. subst (λ (s : Shelf). IsFitted (64 * g.row.W) s.limits d) (sym c.self.view_is) (c.requires.fitted d here)) c.in_ok-made.ensures.store
 
 pub invariant_of-self-2 : goal.invariant_of-self-2
 invariant_of-self-2 g c = in_order g c
@@ -166,12 +168,17 @@ returns-clause-rebuilt g c =
 
 pub invariant_of-self : goal.invariant_of-self
 invariant_of-self g c =
-    subst₂ (λ (base : Numbers) (top : Option Numbers). IsInOrder g.row.W (record { main = base; staging = top; store = c.self.inside.store }))
+    subst₂ (λ (base : Numbers) (top : Option Numbers). IsInOrder g.row.W (record { limits = c.self.inside.limits; main = base; staging = top; store = c.self.inside.store }))
     (sym c.make_room.ensures.base) (sym c.make_room.ensures.top) c.self.invariant
 
 pub invariant_of-self-in_err-made : goal.invariant_of-self-in_err-made
 invariant_of-self-in_err-made g c =
-    subst (λ (store : Store). IsInOrder g.row.W (record { main = c.make_room.new.numbers.base; staging = c.make_room.new.numbers.top; store = store }))
+    subst (λ (store : Store). IsInOrder g.row.W (record {
+      limits = c.self.inside.limits;
+      main = c.make_room.new.numbers.base;
+      staging = c.make_room.new.numbers.top;
+      store = store;
+    }))
     (sym c.in_err-made.ensures.err)
-    (subst₂ (λ (base : Numbers) (top : Option Numbers). IsInOrder g.row.W (record { main = base; staging = top; store = c.self.inside.store }))
+    (subst₂ (λ (base : Numbers) (top : Option Numbers). IsInOrder g.row.W (record { limits = c.self.inside.limits; main = base; staging = top; store = c.self.inside.store }))
     (sym c.make_room.ensures.base) (sym c.make_room.ensures.top) c.self.invariant)

@@ -9,7 +9,7 @@ use Rattle.cluster.specs.Clusters.{Cluster}
 use Rattle.levels.specs.Moves.{SetsFees}
 use Rattle.levels.proofs.Counting.{grows_more, grows_none, steps_counted, steps_shared}
 use Rattle.levels.proofs.Fees.{fees_exchanged, fees_same, first_fee, first_there, one_fee, same_bits, same_fee, same_names}
-use Rattle.levels.proofs.Rooms.{cluster_fits, exchange_fits, work_fits}
+use Rattle.levels.proofs.Rooms.{record_fits, exchange_fits, work_fits}
 use Rattle.levels.proofs.shelves.Shelves.set_fee.Goals as goal
 
 pub at-requires : goal.at-requires
@@ -17,14 +17,14 @@ at-requires g c =
     let narrow : g.row.W ≤ 2 = c.requires.order.narrow in
     let there = first_there g.row.W c.args.id c.numbers_of-first.result.0 c.numbers_of-first.result.1 c.args.self.now c.requires.order
     c.numbers_of-first.ensures in
-    (omega arith, (cluster_fits g.row.W narrow, ap is_some there.1))
+    (omega arith, (record_fits g.row.W narrow, ap is_some there.1))
 
 pub rate-requires : goal.rate-requires
 rate-requires g c =
     let narrow : g.row.W ≤ 2 = c.requires.order.narrow in
     let there = first_there g.row.W c.args.id c.numbers_of-first.result.0 c.numbers_of-first.result.1 c.args.self.now c.requires.order
     c.numbers_of-first.ensures in (
-      cluster_fits g.row.W narrow,
+      record_fits g.row.W narrow,
       subst (λ (d : Cluster). Contains d.names c.args.id) (same_Some there.0 c.at.result.now (sym there.1 ∙ c.at.ensures)) there.2,
     )
 

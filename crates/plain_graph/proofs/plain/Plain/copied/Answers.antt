@@ -13,6 +13,9 @@ invariant_of-result c =
     ∙ c.deref-2.ensures.value in
     let places : length c.in_ok-new.field-0.ids + c.in_ok-new.field-0.room ≡ length c.self.inside.found.ids + c.self.inside.found.room =
     omega (arith, ap (λ (room : Room). length room.ids + room.room) c.in_ok-new.ensures, c.capacity.ensures) in
+    let sound : IsSound c.self.inside.limits c.extend_from_slice.new.self.items c.extend_from_slice-2.new.self.items
+    (length c.in_ok-new.field-0.ids + c.in_ok-new.field-0.room) =
     subst (IsSound c.self.inside.limits c.extend_from_slice.new.self.items c.extend_from_slice-2.new.self.items) (sym places)
     (subst₂ (λ (ts : List Tx) (ps : List (ℕ × ℕ)). IsSound c.self.inside.limits ts ps (length c.self.inside.found.ids + c.self.inside.found.room))
-    (sym txs) (sym pairs) c.self.invariant)
+    (sym txs) (sym pairs) c.self.invariant.sound) in
+    record { sound = sound; noted = rw (txs, pairs) c.self.invariant.noted }

@@ -27,16 +27,20 @@ returns-then-is_err-clause-step c =
     steps_without_memory c.args.self.now _ (Dep c.args.parent c.args.child)
     (record { limits = same.limits; begun = same.begun; txs = same.txs; pairs = kept ∙ same.pairs }) tt c.in_default.ensures.first
 
-pub invariant_of-self-2 : goal.invariant_of-self-2
-invariant_of-self-2 c =
+pub is_over-self-inside-requires : goal.is_over-self-inside-requires
+is_over-self-inside-requires c =
     let same = same_but_found c.args.self.now _ _ (c.self.view_is ∙ c.refused_dep.ensures.same) in
     let ends : Contains (names_of c.self.inside.txs.items) c.args.parent × Contains (names_of c.self.inside.txs.items) c.args.child =
     rw same.txs (c.in_default.ensures.ends refl) in
     let pushed : c.push.new.self.items ≡ c.self.inside.pairs.items ++ (c.args.parent, c.args.child) ∷ [] = search rules in
     let found : IsTrue c.has_pair.result ↔ Contains {X = ℕ × ℕ} c.self.inside.pairs.items (c.args.parent, c.args.child) =
     rw c.deref.ensures.value at c.has_pair.ensures in
-    rw pushed (sound_paired _ c.self.inside.txs.items c.self.inside.pairs.items _ c.args.parent c.args.child c.self.invariant
-    (not_so c.has_pair.result found c.if-has_pair.false) ends.0 ends.1)
+    let sound = sound_paired _ c.self.inside.txs.items c.self.inside.pairs.items _ c.args.parent c.args.child c.self.invariant.sound
+    (not_so c.has_pair.result found c.if-has_pair.false) ends.0 ends.1 in
+    rw (c.deref-2.ensures.value, c.deref-3.ensures.value, pushed) sound
+
+pub invariant_of-self-2 : goal.invariant_of-self-2
+invariant_of-self-2 c = rw (c.deref-2.ensures.value, c.deref-3.ensures.value) at c.is_over-self-inside.ensures
 
 pub returns-clause-step : goal.returns-clause-step
 returns-clause-step c =

@@ -3,7 +3,7 @@ use Rattle.graph_model.specs.Commands.{SetFee}
 use Rattle.plain_graph.specs.Plain.{Kept}
 use Rattle.plain_graph.specs.Rests.{paying}
 use Rattle.plain_graph.proofs.Standing.{itself, steps_refused}
-use Rattle.plain_graph.proofs.Fees.{at_new_fee, steps_paid, sound_paid}
+use Rattle.plain_graph.proofs.Fees.{at_new_fee, steps_paid, right_paid}
 use Rattle.plain_graph.proofs.plain.Plain.fee.Goals as goal
 
 pub returns-in-Some-clause-step : goal.returns-in-Some-clause-step
@@ -11,7 +11,7 @@ returns-in-Some-clause-step c = steps_refused c.args.self.now c.args.self.now (S
     (itself c.args.self.now) (at_new_fee c.args.self.now c.args.id _ c.args.fee _ (to_z-of_z c.ranges.fee) c.in-Some.ensures.first)
 
 pub invariant_of-self : goal.invariant_of-self
-invariant_of-self c = rw c.set_fee.ensures (sound_paid c.self.inside.limits c.self.inside.txs.items c.self.inside.pairs.items _ _ _ c.self.invariant)
+invariant_of-self c = rw c.set_fee.ensures (right_paid c.self.inside.limits c.self.inside.txs.items c.self.inside.pairs.items _ _ _ _ c.self.invariant)
 
 pub returns-clause-step : goal.returns-clause-step
 returns-clause-step c =

@@ -27,7 +27,7 @@ pub leads-requires : goal.leads-requires
 leads-requires c =
     let named : IsTrue c.is_live.result ↔ Contains (names_of c.self.inside.txs.items) c.args.parent = rw c.deref.ensures.value at c.is_live.ensures.named in
     rw c.deref-3.ensures.value
-    (holds_one _ c.self.inside.txs.items c.self.inside.pairs.items _ c.args.parent c.self.invariant (so c.is_live.result named c.if-not-is_live.false))
+    (holds_one _ c.self.inside.txs.items c.self.inside.pairs.items _ c.args.parent c.self.invariant.sound (so c.is_live.result named c.if-not-is_live.false))
 
 pub returns-then-leads-clause-first : goal.returns-then-leads-clause-first
 returns-then-leads-clause-first c =
@@ -44,7 +44,7 @@ pub leads-requires-2 : goal.leads-requires-2
 leads-requires-2 c =
     let named : IsTrue c.is_live.result ↔ Contains (names_of c.self.inside.txs.items) c.args.parent = rw c.deref.ensures.value at c.is_live.ensures.named in
     rw (c.deref-4.ensures.value, c.leads.ensures.room)
-    (holds_one _ c.self.inside.txs.items c.self.inside.pairs.items _ c.args.parent c.self.invariant (so c.is_live.result named c.if-not-is_live.false))
+    (holds_one _ c.self.inside.txs.items c.self.inside.pairs.items _ c.args.parent c.self.invariant.sound (so c.is_live.result named c.if-not-is_live.false))
 
 pub returns-then-leads-2-clause-first : goal.returns-then-leads-2-clause-first
 returns-then-leads-2-clause-first c =
@@ -76,7 +76,7 @@ refused_join-requires-clause-room c =
     rw c.deref-2.ensures.value at c.is_live-2.ensures.named in
     let room : length c.leads-2.new.found.ids + c.leads-2.new.found.room ≡ length c.self.inside.found.ids + c.self.inside.found.room =
     c.leads-2.ensures.room ∙ c.leads.ensures.room in
-    rw (c.deref-6.ensures.value, room) (holds_two _ c.self.inside.txs.items c.self.inside.pairs.items _ c.args.parent c.args.child c.self.invariant
+    rw (c.deref-6.ensures.value, room) (holds_two _ c.self.inside.txs.items c.self.inside.pairs.items _ c.args.parent c.args.child c.self.invariant.sound
     (so c.is_live.result named c.if-not-is_live.false) (so c.is_live-2.result other c.if-not-is_live-2.false))
 
 pub returns-clause-first : goal.returns-clause-first

@@ -24,17 +24,20 @@ returns-in_default-clause-step c =
     steps_without_memory c.args.self.now c.args.self.now (Remove c.args.id) (itself c.args.self.now) tt
     (remove_unrefused c.args.self.now c.args.id (so c.is_live.result named c.if-not-is_live.false))
 
-pub invariant_of-self : goal.invariant_of-self
-invariant_of-self c =
+pub is_over-self-inside-requires : goal.is_over-self-inside-requires
+is_over-self-inside-requires c =
     let pairs : ArePairsWithout c.self.inside.pairs.items c.args.id c.in-Ok.pairs.items = rw (← c.deref-2.ensures.value) c.in-Ok.ensures in
-    rw c.drop_name.ensures
-    (sound_removed c.self.inside.limits c.self.inside.txs.items c.self.inside.pairs.items c.in-Ok.pairs.items _ c.args.id c.self.invariant pairs)
+    let sound = sound_removed c.self.inside.limits c.self.inside.txs.items c.self.inside.pairs.items c.in-Ok.pairs.items _ c.args.id c.self.invariant.sound pairs in
+    rw (c.deref-3.ensures.value, c.deref-4.ensures.value, c.drop_name.ensures) sound
+
+pub invariant_of-self : goal.invariant_of-self
+invariant_of-self c = rw (c.deref-3.ensures.value, c.deref-4.ensures.value) at c.is_over-self-inside.ensures
 
 pub returns-clause-step : goal.returns-clause-step
 returns-clause-step c =
     let named : IsTrue c.is_live.result ↔ Contains (names_of c.args.self.now.txs) c.args.id =
     rw (← c.self.view_is) (rw c.deref.ensures.value at c.is_live.ensures.named) in
     let pairs : ArePairsWithout c.args.self.now.pairs c.args.id c.in-Ok.pairs.items = rw (← c.self.view_is) (rw (← c.deref-2.ensures.value) c.in-Ok.ensures) in
-    let once : AreDistinct (names_of c.args.self.now.txs) = rw (← c.self.view_is) c.self.invariant.names_once in
+    let once : AreDistinct (names_of c.args.self.now.txs) = rw (← c.self.view_is) c.self.invariant.sound.names_once in
     steps_removed c.args.self.now _ c.args.id (ap (λ (kept : Kept). kept.limits) c.self.view_is) refl (c.drop_name.ensures
     ∙ ap (λ (kept : Kept). without_name c.args.id kept.txs) c.self.view_is) pairs once (so c.is_live.result named c.if-not-is_live.false)

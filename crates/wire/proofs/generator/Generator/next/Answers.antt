@@ -1,6 +1,6 @@
 use Rattle.std.proofs.Common.{◌≡◌, ◌<◌, ◌≤◌, ℕ, refl, sym, ap, subst, ◌∙◌, arith}
 use Rattle.graph_model.specs.Commands.{Command, Stage, Commit, Abort, Compare}
-use Rattle.graph_model.specs.Generators.{draw, drawn_add, drawn_dep, drawn_change, drawn_remove, drawn_command}
+use Rattle.graph_model.specs.Generators.{draw, drawn_add, drawn_dep, drawn_change, drawn_remove}
 use Rattle.graph_model.specs.Lines.{Says}
 use Rattle.wire.proofs.GeneratorLemmas.{drawn_at, drawn_early, drawn_middle}
 use Rattle.wire.proofs.generator.Generator.next.Goals as goal
