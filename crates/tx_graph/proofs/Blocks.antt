@@ -11,7 +11,7 @@ use Rattle.lists.proofs.Flats.{flat_has}
 use Rattle.fee_rate.specs.declared.rates.Sum.{Sum}
 use Rattle.graphs.specs.Certificates.{Part}
 use Rattle.graphs.specs.Closures.{is_member, rate_of}
-use Rattle.graphs.specs.Rates.{sum_of, sums}
+use Rattle.graphs.specs.Rates.{sum_of}
 use Rattle.graph_model.specs.declared.names.Refusal.TheVariants.{Memory}
 use Rattle.graphs.specs.declared.names.Level.TheVariants.{Main}
 use Rattle.graph_model.specs.Answers.{order_of}

@@ -1,5 +1,5 @@
 -- Other limits, where there is no name yet.
-use Rattle.std.proofs.Common.{◌≡◌, ◌≢◌, ℕ, true, false, List, sym, refl, ap, subst, ◌∙◌, Option, None, Some, true≢false}
+use Rattle.std.proofs.Common.{◌≡◌, ℕ, true, false, List, sym, refl, ap, subst, ◌∙◌, Option, None, Some, true≢false}
 use Rattle.lists.proofs.Cases.{some_none}
 use Rattle.graphs.specs.Certificates.{Part}
 use Rattle.graphs.specs.Closures.{is_member}

@@ -1,5 +1,5 @@
 -- What mining and eviction need of the levels that are kept.
-use Rattle.std.proofs.Common.{◌≡◌, ◌≢◌, ℕ, true, false, List, [], ◌∷◌, ◌++◌, map, flat_map, sym, refl, ap, subst, subst₂, ◌∙◌, inl, inr, ◌⊎◌, ◌↔◌, Option, None, Some, is_some, true≢false}
+use Rattle.std.proofs.Common.{◌≡◌, ◌≢◌, ℕ, true, false, List, [], ◌∷◌, ◌++◌, map, flat_map, sym, refl, ap, subst, subst₂, ◌∙◌, inl, inr, ◌↔◌, Option, None, Some, is_some, true≢false}
 use Rattle.std.specs.Prelude.{Contains, Bool, All, Ok, slice_index_or, ◌<◌, ◌^◌}
 use Rattle.std.proofs.lemmas.Bool.{false_from_ne_true}
 use Rattle.std.proofs.lemmas.List.{map-append, get_or_default}
@@ -9,11 +9,11 @@ use Rattle.lists.proofs.Cases.{none_of}
 use Rattle.lists.proofs.Entries.{none_in_empty, Contains-head}
 use Rattle.lists.proofs.Flats.{flat_has, flat_part_once}
 use Rattle.graphs.specs.declared.names.Level.TheVariants.{Main, Top}
-use Rattle.graphs.specs.Closures.{is_member, is_ancestor}
+use Rattle.graphs.specs.Closures.{is_member}
 use Rattle.graphs.specs.Certificates.{Part}
 use Rattle.graph_model.specs.declared.names.Picked.{Picked}
 use Rattle.graph_model.specs.declared.names.Refusal.{Refusal}
-use Rattle.graph_model.specs.declared.names.Refusal.TheVariants.{Twice, Unknown, Parent, Staging, Empty, Memory, Oversized}
+use Rattle.graph_model.specs.declared.names.Refusal.TheVariants.{Twice, Unknown, Parent, Staging, Empty, Oversized}
 use Rattle.graph_model.specs.States.{PlainState, top_of}
 use Rattle.graph_model.specs.Commands.{Mine, Evict, HasTypes}
 use Rattle.graph_model.specs.Changes.{IsLast}

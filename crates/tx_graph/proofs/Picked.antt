@@ -126,7 +126,7 @@ same_pick limits old new same parts None over =
     (λ q here. ap (λ (r : FeeRate). r.size) (same.rates q (same.members q ∙ here))) over
 same_pick limits old new same parts (Some pick) is = (
   λ over. is.0 (over_along limits new.graph old.graph (λ q. sym (same.members q)) (λ a d. sym (same.above a d))
-  (λ q here. ap (λ (r : FeeRate). r.size) (sym (same.rates q here))) over),
+      (λ q here. ap (λ (r : FeeRate). r.size) (sym (same.rates q here))) over),
   is.1 ∙ sym parts,
 )
 

@@ -1,5 +1,5 @@
 -- The steps of the readings of an order, which tell of the picks.
-use Rattle.std.proofs.Common.{◌≡◌, ℕ, ℤ, true, Some, List, map, Contains, ◌↔◌, sym, refl, ap, subst, ◌∙◌}
+use Rattle.std.proofs.Common.{◌≡◌, ℕ, ℤ, true, map, Contains, ◌↔◌, sym, refl, ap, ◌∙◌}
 use Rattle.fee_rate.specs.declared.rates.Sum.{Sum}
 use Rattle.lists.proofs.Entries.{map_along}
 use Rattle.graphs.specs.declared.names.Level.{Level}
@@ -7,7 +7,6 @@ use Rattle.graphs.specs.declared.names.Level.TheVariants.{Main}
 use Rattle.graphs.specs.Certificates.{Part}
 use Rattle.graphs.specs.Closures.{is_member}
 use Rattle.graphs.specs.Graphs.{Graph}
-use Rattle.graphs.specs.Picks.{FollowOrder}
 use Rattle.graphs.proofs.AlikeLemmas.{optimal_to}
 use Rattle.graphs.proofs.ClosingLemmas.{covers_agree}
 use Rattle.cluster.specs.Clusters.{sum_at}

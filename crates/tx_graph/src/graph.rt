@@ -94,12 +94,7 @@ fn is_live<const W: usize>(levels: &Levels<W>, id: TxId) -> bool
 }
 
 /// Why `add` is refused, other than for want of memory.
-fn refused_add<const W: usize>(
-    levels: &Levels<W>,
-    id: TxId,
-    fee: i64,
-    size: u64,
-) -> Option<Refusal>
+fn refused_add<const W: usize>(levels: &Levels<W>, id: TxId, fee: i64, size: u64) -> Option<Refusal>
     ensures row { (live : ℕ) → CountsLive levels.now live → AddRefusalIs levels.now live id fee size result }
 {
     let limits = levels.limits();
@@ -164,7 +159,7 @@ fn cluster_of<const W: usize>(
 ) -> Result<&Component<W>, Refusal>
     ensures { MatchResult result
         (λ c. (is_member (level_at levels.now level).graph id ≡ true) × IsWithin levels.now level
-            × IsClusterOf (level_at levels.now level).graph id c.now × IsCluster (64 * W) c.now)
+        × IsClusterOf (level_at levels.now level).graph id c.now × IsCluster (64 * W) c.now)
         (λ why. NameRefusalIs levels.now level id (Some why)) }
 {
     if levels.oversized(level) {

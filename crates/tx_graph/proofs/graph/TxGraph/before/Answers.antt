@@ -1,4 +1,4 @@
-use Rattle.std.proofs.Common.{◌*◌, sym, ◌∙◌, true≢false}
+use Rattle.std.proofs.Common.{◌*◌, sym, ◌∙◌}
 use Rattle.graph_model.specs.declared.names.Refusal.TheVariants.{Unknown, Oversized}
 use Rattle.graph_model.specs.Commands.{Before}
 use Rattle.graph_model.specs.Replies.{Refused, Stands}

@@ -1,5 +1,5 @@
 -- The part of a name is one of main's order.
-use Rattle.std.proofs.Common.{◌*◌, Some, true, ◌≡◌, sym, ◌∙◌, inl, refl, true≢false}
+use Rattle.std.proofs.Common.{◌*◌, Some, sym, ◌∙◌, inl, refl, true≢false}
 use Rattle.graph_model.specs.Commands.{Chunk}
 use Rattle.graph_model.specs.declared.names.Refusal.TheVariants.{Unknown}
 use Rattle.graph_model.specs.Replies.{Refused, OnePart}

@@ -28,4 +28,6 @@ returns-clause-step g c =
     )
 
 pub rates-requires : goal.rates-requires
-rates-requires g c = levels_fit g.row.W assumption
+rates-requires g c =
+    let kept = kept_of (64 * g.row.W) c.self.inside.begun c.self.inside.levels in
+    (levels_fit g.row.W assumption, within_view kept c.args.self.now c.args.level c.self.view_is c.requires.within)

@@ -1,15 +1,13 @@
 use Rattle.std.proofs.Common.{◌*◌, ◌≡◌, ℕ, List, true, sym, ◌∙◌, subst, refl, ap}
 use Rattle.std.specs.Prelude.{Contains}
 use Rattle.lists.specs.Distinct.{AreDistinct}
-use Rattle.graphs.specs.declared.names.Level.TheVariants.{Top}
 use Rattle.graphs.specs.Closures.{is_member}
 use Rattle.graphs.specs.Certificates.{Part}
 use Rattle.graph_model.specs.declared.names.Refusal.TheVariants.{Memory, Staging}
 use Rattle.graph_model.specs.Changes.{IsLast}
 use Rattle.graph_model.specs.Commands.{Evict}
 use Rattle.graph_model.specs.Replies.{Reply, Evicted, Refused, evicted_reply}
-use Rattle.graph_model.proofs.PickReplies.{last_same}
-use Rattle.levels.specs.Levels.{OneLevel, Levels, ChangesTop, LosesNames, level_at}
+use Rattle.levels.specs.Levels.{OneLevel, Levels, ChangesTop, LosesNames}
 use Rattle.levels.specs.Lefts.{DropsWithin}
 use Rattle.levels.specs.Stays.{AllStay}
 use Rattle.tx_graph.specs.Kept.{Kept, MakesStep}

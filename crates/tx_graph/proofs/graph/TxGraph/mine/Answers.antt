@@ -1,5 +1,4 @@
 use Rattle.std.proofs.Common.{arith, ◌*◌, ◌≡◌, true, sym, ◌∙◌, subst, refl, ap, None, Some}
-use Rattle.std.specs.Prelude.{Contains}
 use Rattle.graphs.specs.declared.names.Level.TheVariants.{Top}
 use Rattle.graphs.specs.Closures.{is_member}
 use Rattle.graph_model.specs.declared.names.Refusal.TheVariants.{Memory, Staging}

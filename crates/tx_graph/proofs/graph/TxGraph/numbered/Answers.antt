@@ -1,5 +1,5 @@
 -- The numbers are those of the components of every state.
-use Rattle.std.proofs.Common.{◌*◌, ◌≡◌, ℕ, List, ap, ◌∙◌, subst}
+use Rattle.std.proofs.Common.{◌*◌, ℕ, List, ap, ◌∙◌, subst}
 use Rattle.graphs.specs.Certificates.{Part}
 use Rattle.graphs.specs.declared.names.Level.TheVariants.{Main}
 use Rattle.graphs.specs.Rates.{sum_of}
@@ -41,7 +41,7 @@ returns-clause-block g c =
 pub returns-clause-memory : goal.returns-clause-memory
 returns-clause-memory g c =
     let kept = kept_of (64 * g.row.W) c.self.inside.begun c.self.inside.levels in
-    subst (λ (k : Kept). (size : ℕ) → MakesStep k k (Block size) (Refused Memory)) c.self.view_is 
+    subst (λ (k : Kept). (size : ℕ) → MakesStep k k (Block size) (Refused Memory)) c.self.view_is
     (steps_unbuilt kept (within_view kept c.args.self.now Main c.self.view_is c.requires.within))
 
 pub parts-requires : goal.parts-requires

@@ -42,8 +42,8 @@ pub invariant_of-self : goal.invariant_of-self
 invariant_of-self g c =
     let in_range = subst (λ n. AreInRange n (bounds_of c.args.limits)) c.most_names.ensures (c.are_in_range.ensures.0 c.if-not-are_in_range.false) in
     sound_after (kept_of (64 * g.row.W) c.self.inside.begun c.self.inside.levels) (kept_of (64 * g.row.W) true c.set_limits.new.self)
-    (SetLimits (bounds_of c.args.limits)) Done c.self.invariant c.set_limits.ensures.kept.0
-    (limits_step (64 * g.row.W) c.args.limits c.self.inside.begun c.self.inside.levels c.set_limits.new.self c.self.invariant c.set_limits.ensures.kept.0
+    (SetLimits (bounds_of c.args.limits)) Done c.self.invariant c.set_limits.ensures.picks
+    (limits_step (64 * g.row.W) c.args.limits c.self.inside.begun c.self.inside.levels c.set_limits.new.self c.self.invariant c.set_limits.ensures.picks
     c.if-self.false in_range c.set_limits.ensures.set)
 
 pub returns-clause-step : goal.returns-clause-step
@@ -51,7 +51,7 @@ returns-clause-step g c =
     let in_range = subst (λ n. AreInRange n (bounds_of c.args.limits)) c.most_names.ensures (c.are_in_range.ensures.0 c.if-not-are_in_range.false) in
     from_view (kept_of (64 * g.row.W) c.self.inside.begun c.self.inside.levels) c.args.self.now (kept_of (64 * g.row.W) true c.set_limits.new.self)
     (SetLimits (bounds_of c.args.limits)) Done c.self.view_is
-    (limits_step (64 * g.row.W) c.args.limits c.self.inside.begun c.self.inside.levels c.set_limits.new.self c.self.invariant c.set_limits.ensures.kept.0
+    (limits_step (64 * g.row.W) c.args.limits c.self.inside.begun c.self.inside.levels c.set_limits.new.self c.self.invariant c.set_limits.ensures.picks
     c.if-self.false in_range c.set_limits.ensures.set)
 
 pub returns-then-self-clause-additions : goal.returns-then-self-clause-additions
