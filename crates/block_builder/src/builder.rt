@@ -1,9 +1,11 @@
 ghost use Rattle.std.specs.Prelude.{◌≡◌, ◌≢◌, ◌*◌, true, false, Bool, List, [], option_map, IfOk, OnOk, OnErr, MatchOption};
 ghost use Rattle.graphs.specs.Certificates.{Part};
+ghost use Rattle.graphs.specs.declared.names.Level.TheVariants.{Main};
 ghost use Rattle.graph_model.specs.Commands.{Block};
 ghost use Rattle.graph_model.specs.Replies.{block_reply};
 ghost use Rattle.graph_model.specs.States.{State};
 ghost use Rattle.cluster_store.specs.Lent.{lent};
+ghost use Rattle.levels.specs.Levels.{IsWithin};
 ghost use Rattle.tx_graph.specs.Dropped.{IsBlockOf};
 ghost use Rattle.tx_graph.specs.Kept.{MakesStep, StandsFor};
 ghost use Rattle.block_builder.specs.Building.{HasPassed, IsOffered, StepsPast};
@@ -24,7 +26,7 @@ use tx_graph::TxGraph;
 pub type Builder<'g, const W: usize> = BlockBuilder<'g, Stored<W>, W>;
 
 /// Offers the parts of a graph's main one by one, in main's order, of which the caller includes or skips each. No further part of a
-/// skipped cluster is offered. The graph can't change meanwhile.
+/// skipped cluster is offered. The graph can't change meanwhile. Its main isn't oversized.
 ///
 /// This is `BlockBuilder` of Bitcoin Core's `txgraph.h`. Clauses see the parts that weren't gone past, and for each list of parts whether the
 /// builder has gone past these (`HasPassed`).
@@ -39,6 +41,8 @@ pub struct BlockBuilder<'g, T: Parts, const W: usize> {
 }
 
 impl<'g, T: Parts, const W: usize> Model for BlockBuilder<'g, T, W> {
+    ghost use Rattle.graphs.specs.declared.names.Level.TheVariants.{Main};
+    ghost use Rattle.levels.specs.Levels.{IsWithin};
     ghost use Rattle.block_builder.specs.Building.{Building, building_code, GraphFits};
 
     ghost Value = { Building };
@@ -51,12 +55,13 @@ impl<'g, T: Parts, const W: usize> Model for BlockBuilder<'g, T, W> {
       marks = a.marks.items;
     } };
 
-    ghost invariant = { λ a. GraphFits W };
+    ghost invariant = { λ a. GraphFits W × IsWithin a.graph.now.levels Main };
 }
 
 impl<'g, const W: usize> BlockBuilder<'g, Stored<W>, W> {
-    /// Starts in front of the first part of main. Takes no memory.
+    /// Starts in front of the first part of main, which isn't oversized. Takes no memory.
     pub fn new(alloc: Global, graph: &'g TxGraph<W>) -> Self
+        requires within { IsWithin graph.now.levels Main }
         ensures graph { result.graph ≡ graph.now }
         ensures past { HasPassed result [] }
     {

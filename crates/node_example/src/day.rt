@@ -1,4 +1,6 @@
 ghost use Rattle.std.specs.Prelude.{◌≡◌, ◌<◌, ◌≤◌};
+ghost use Rattle.graphs.specs.declared.names.Level.TheVariants.{Main};
+ghost use Rattle.levels.specs.Levels.{IsWithin};
 
 use block_builder::Builder;
 use eviction::evict;
@@ -61,6 +63,10 @@ fn live<L: Ledger>(
 {
     receive(graph, steps)?;
     let verdict = replace(graph, steps)?;
+    // What reads main's order asks that main isn't oversized. With the limits at the start it never is.
+    if graph.oversized(Level::Main) {
+        return Err(Refusal::Oversized);
+    }
     let (by_hand, block) = match fill(alloc, graph) {
         Ok(blocks) => blocks,
         Err(_) => return Err(Refusal::Memory),
@@ -98,14 +104,18 @@ fn replace<L: Ledger>(graph: &mut TxGraph<1>, steps: &mut Steps<L>) -> Result<Ve
 }
 
 /// A block that is filled chunk by chunk, and the same by one call.
-fn fill(alloc: Global, graph: &TxGraph<1>) -> Result<(Vec<TxId>, Picked), NoMemory> {
+fn fill(alloc: Global, graph: &TxGraph<1>) -> Result<(Vec<TxId>, Picked), NoMemory>
+    requires { IsWithin graph.now.levels Main }
+{
     let by_hand = fill_by_hand(alloc, graph)?;
     let block = Builder::new(alloc, graph).fill(1_000)?;
     Ok((by_hand, block))
 }
 
 /// A block as a miner fills it who looks at each chunk: what fits into 1,000 virtual bytes is included.
-fn fill_by_hand(alloc: Global, graph: &TxGraph<1>) -> Result<Vec<TxId>, NoMemory> {
+fn fill_by_hand(alloc: Global, graph: &TxGraph<1>) -> Result<Vec<TxId>, NoMemory>
+    requires { IsWithin graph.now.levels Main }
+{
     let mut ids = Vec::new(alloc);
     let mut left = 1_000;
     let mut builder = Builder::new(alloc, graph);

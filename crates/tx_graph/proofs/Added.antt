@@ -52,7 +52,7 @@ module _ (was top : OneLevel) (id : ℕ) (rate : FeeRate) (absent : is_member wa
     };
   }
 
-module _ (old new : Kept) (id : ℕ) (fee : ℤ) (size : ℕ) (limits : new.limits ≡ old.limits) (most : new.most ≡ old.most) (begins : new.begun ≡ true)
+module _ (old new : Kept) (id : ℕ) (fee : ℤ) (size : ℕ) (most : new.most ≡ old.most) (begins : new.begun ≡ true)
     (absent : IsLive old.levels id → ⊥) (top : OneLevel) (adds : AddsName (level_at old.levels Top).graph top.graph id (record { fee = fee; size = size }))
     (topped : AreTopped old.levels top new.levels) where
   abbrev was : OneLevel
@@ -93,7 +93,7 @@ module _ (old new : Kept) (id : ℕ) (fee : ℤ) (size : ℕ) (limits : new.limi
       let table : Table = finmap.insert state.table id (entry_of rate) in
       let graph : Graph = level_of state Top in (
         added state id fee size,
-        stands_topped old new top limits most begins topped state stands table (with_name graph id)
+        stands_topped old new top most begins topped state stands table (with_name graph id)
             (graph_added was top id rate none_before adds graph (graph_at old state stands Top)) (rates_added state.table stands.table),
         λ picks. record { answer = refl; change = refl },
       )

@@ -93,7 +93,7 @@ live_count levels table live rates counts =
     ∙ keys_counted table keys.0 keys.1
 
 pub add_row : (kept : Kept) (live id : ℕ) (fee : ℤ) (size : ℕ) (found : Option Refusal) → CountsLive kept.levels live
-    → AddRefusalIs kept.limits kept.levels live id fee size found → Meets kept (Add id fee size) found
+    → AddRefusalIs kept.levels live id fee size found → Meets kept (Add id fee size) found
 add_row kept live id fee size found counts row state stands =
     add_row_along _ _ _ _ _ _ _ _ _ _ size found (λ h. h, λ h. h) (λ h. h, λ h. h) (live_told kept.levels state.table stands.table id) (
       λ over. subst (λ (l : Bounds). l.size < size) (sym stands.limits) over,

@@ -18,7 +18,7 @@ use Rattle.graph_model.specs.Commands.{Diagram}
 use Rattle.graph_model.specs.Replies.{Points}
 use Rattle.graph_model.specs.States.{PlainState, level_of}
 use Rattle.graph_model.specs.States as states
-use Rattle.levels.specs.Levels.{OneLevel, Levels, HavePicks, level_at}
+use Rattle.levels.specs.Levels.{OneLevel, Levels, HavePicks, IsWithin, level_at}
 use Rattle.tx_graph.specs.Kept.{Kept, IsGraphOf, StandsPlainly, MakesStep}
 use Rattle.diagram.specs.Parts.{sums_of}
 use Rattle.tx_graph.proofs.Standing.{graph_at, sum_kept}
@@ -53,7 +53,7 @@ module _ (rate : ℕ → Sum) (graph : Graph) (parts : List Part) (pick : IsPick
 
 -- ---- a level of a state
 
-module _ (kept : Kept) (picked : HavePicks kept.levels) (level : Level) (rated : IsRated (level_at kept.levels level)) (state : PlainState)
+module _ (kept : Kept) (picked : HavePicks kept.levels) (level : Level) (within : IsWithin kept.levels level) (rated : IsRated (level_at kept.levels level)) (state : PlainState)
     (stands : StandsPlainly kept state) where
   abbrev at : OneLevel
   at = level_at kept.levels level
@@ -68,7 +68,7 @@ module _ (kept : Kept) (picked : HavePicks kept.levels) (level : Level) (rated :
   of = graph_at kept state stands level
 
   pick : IsPick rate graph at.parts
-  pick = pick_here at graph rate (pick_at kept.levels level picked) of (sum_kept kept.levels state.table stands.table level)
+  pick = pick_here at graph rate (pick_at kept.levels level picked within) of (sum_kept kept.levels state.table stands.table level)
 
   sized : HasSizes rate graph.names
   sized id here =
@@ -82,10 +82,10 @@ module _ (kept : Kept) (picked : HavePicks kept.levels) (level : Level) (rated :
   corners_at segments joins = corners_here rate graph at.parts pick sized segments of.valid joins
 
 -- the segments of a level's parts end at the corners of its graph
-pub steps_drawn : (kept : Kept) (level : Level) (segments : List Sum) → HavePicks kept.levels → IsRated (level_at kept.levels level)
-    → JoinsEqualRates (sums_of (level_at kept.levels level).parts) segments → MakesStep kept kept (Diagram level) (Points (corners_of segments))
-steps_drawn kept level segments picked rated joins =
-    steps_told kept (Diagram level) (Points (corners_of segments)) picked (λ a b keeps. keeps) (ordered_row kept level) (λ state stands. record {
-      answer = (corners_of segments, corners_at kept picked level rated state.plain stands.plain segments joins, refl);
+pub steps_drawn : (kept : Kept) (level : Level) (segments : List Sum) → HavePicks kept.levels → IsWithin kept.levels level
+    → IsRated (level_at kept.levels level) → JoinsEqualRates (sums_of (level_at kept.levels level).parts) segments → MakesStep kept kept (Diagram level) (Points (corners_of segments))
+steps_drawn kept level segments picked within rated joins =
+    steps_told kept (Diagram level) (Points (corners_of segments)) picked (λ a b keeps. keeps) (ordered_row kept level within) (λ state stands. record {
+      answer = (corners_of segments, corners_at kept picked level within rated state.plain stands.plain segments joins, refl);
       change = refl;
     })

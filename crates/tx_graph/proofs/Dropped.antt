@@ -53,7 +53,7 @@ module _ (was top : OneLevel) (id : ℕ) (drops : DropsPlace was.graph top.graph
   other_dropped live same = absurd (true≢false
       (sym live ∙ sym (same.members id) ∙ drops.members id ∙ ap (λ b. not b && is_member was.graph id) (eq-eqb id id refl)))
 
-module _ (old new : Kept) (id : ℕ) (limits : new.limits ≡ old.limits) (most : new.most ≡ old.most) (begins : new.begun ≡ true)
+module _ (old new : Kept) (id : ℕ) (most : new.most ≡ old.most) (begins : new.begun ≡ true)
     (live : is_member (level_at old.levels Top).graph id ≡ true) (top : OneLevel) (drops : DropsPlace (level_at old.levels Top).graph top.graph id)
     (topped : AreTopped old.levels top new.levels) where
   abbrev was : OneLevel
@@ -74,11 +74,11 @@ module _ (old new : Kept) (id : ℕ) (limits : new.limits ≡ old.limits) (most 
       mid = with_top (begun state) rest
 
       graphs_left : HasGraphs new mid
-      graphs_left = graphs_topped old new top limits most begins topped state stands state.table rest
+      graphs_left = graphs_topped old new top most begins topped state stands state.table rest
           (graph_dropped was top id drops (level_of state Top) rest (graph_at old state stands Top) without)
 
       same_table : mid.table ≡ state.table
-      same_table = table_is old new top limits most begins topped state stands state.table rest
+      same_table = table_is old new top most begins topped state stands state.table rest
           (graph_dropped was top id drops (level_of state Top) rest (graph_at old state stands Top) without)
 
       names_mid : (level : Level) (q : ℕ) → is_member (level_at new.levels level).graph q ≡ true

@@ -1,4 +1,5 @@
 pub mod Standing
+mod Oversizing
 mod Picked
 mod Tops
 mod Rows

@@ -1,5 +1,5 @@
 -- Names are dropped from main, with all their ancestors or with all their descendants.
-use Rattle.std.proofs.Common.{◌≡◌, ◌≢◌, ℕ, true, not, ◌&&◌, nat_eq, List, [], ◌∷◌, map, flat_map, sym, refl, ap, subst, subst₂, ◌∙◌, inl, inr, ◌⊎◌, ◌↔◌, Bool, Option, None, Some, eq-eqb, ne_eqb}
+use Rattle.std.proofs.Common.{◌≡◌, ◌≢◌, ℕ, true, not, ◌&&◌, nat_eq, List, [], ◌∷◌, map, flat_map, sym, refl, ap, subst, subst₂, ◌∙◌, inl, inr, ◌⊎◌, Bool, Option, None, Some, eq-eqb, ne_eqb}
 use Rattle.std.specs.Prelude.{Contains, take}
 use Rattle.std.specs.FinMap as finmap
 use Rattle.std.specs.List.{filter}
@@ -26,10 +26,10 @@ use Rattle.graphs.specs.Certificates.{Part}
 use Rattle.graphs.specs.Linearizations.{IsOptimal}
 use Rattle.graphs.proofs.OrderLemmas.{last_is_one}
 use Rattle.cluster.specs.Clusters.{sum_at}
-use Rattle.levels.specs.Levels.{OneLevel, LosesNames, HavePicks, IsBest, level_at}
+use Rattle.levels.specs.Levels.{OneLevel, LosesNames, HavePicks, IsBest, IsWithin, level_at}
 use Rattle.tx_graph.specs.Kept.{Kept, IsGraphOf, IsStagingOf, StandsPlainly, MakesStep, entry_of}
 use Rattle.tx_graph.proofs.Standing.{StandsBarely, Meets, order_kept, told}
-use Rattle.tx_graph.proofs.Picked.{AreSameLevel, KeepsParts, AcceptsAll, AcceptsHere, steps_accepted, steps_kept}
+use Rattle.tx_graph.proofs.Picked.{AreSameLevel, KeepsParts, AcceptsAll, AcceptsHere, pick_is, steps_accepted, steps_kept}
 use Rattle.tx_graph.proofs.Tables.{forgotten, stands_forgotten, forgets}
 use Rattle.tx_graph.proofs.Tops.{HasGraphs}
 
@@ -77,7 +77,7 @@ module _ (was left : OneLevel) (ids : List ℕ) (loses : LosesNames was.graph le
 
 -- ---- states
 
-module _ (old new : Kept) (ids : List ℕ) (limits : new.limits ≡ old.limits) (most : new.most ≡ old.most) (begins : new.begun ≡ true)
+module _ (old new : Kept) (ids : List ℕ) (limits : new.levels.limits ≡ old.levels.limits) (most : new.most ≡ old.most) (begins : new.begun ≡ true)
     (alone : old.levels.staging ≡ None) (still : new.levels.staging ≡ None) (loses : LosesNames old.levels.main.graph new.levels.main.graph ids)
     (state : PlainState) (stands : StandsPlainly old state) (closed : HasParents state.main.pairs ids ⊎ HasChildren state.main.pairs ids) where
   -- no staging is open before or after
@@ -169,12 +169,13 @@ module _ (kept : Kept) (state : PlainState) (stands : StandsPlainly kept state) 
 
 -- ---- steps
 
-module _ (old new : Kept) (ids : List ℕ) (limits : new.limits ≡ old.limits) (most : new.most ≡ old.most) (begins : new.begun ≡ true)
+module _ (old new : Kept) (ids : List ℕ) (limits : new.levels.limits ≡ old.levels.limits) (most : new.most ≡ old.most) (begins : new.begun ≡ true)
     (alone : old.levels.staging ≡ None) (still : new.levels.staging ≡ None) (loses : LosesNames old.levels.main.graph new.levels.main.graph ids)
     (id : ℕ) (here : Contains ids id) (live : is_member old.levels.main.graph id ≡ true) (picked : HavePicks new.levels) where
   keeps_lost : KeepsParts old.levels new.levels
   keeps_lost = record {
     picked = picked;
+    limits = limits;
     main = other_lost old.levels.main new.levels.main ids loses id here live;
     staging = λ a b was is same. absurd (some_none a (sym was ∙ alone));
   }
@@ -196,19 +197,20 @@ last_closed level graph part best of last =
     (subst (IsOptimal (sum_at level.graph) graph) (ap (map (λ (p : Part). p.ids)) last.1 ∙ map-append (λ (p : Part). p.ids) last.0 (part ∷ []))
     (best.optimal graph of.closure))).0.children
 
-module _ (old new : Kept) (part : Part) (limits : new.limits ≡ old.limits) (most : new.most ≡ old.most) (begins : new.begun ≡ true)
+module _ (old new : Kept) (part : Part) (limits : new.levels.limits ≡ old.levels.limits) (most : new.most ≡ old.most) (begins : new.begun ≡ true)
     (alone : old.levels.staging ≡ None) (still : new.levels.staging ≡ None) (loses : LosesNames old.levels.main.graph new.levels.main.graph part.ids)
-    (best : IsBest old.levels.main) (last : IsLast old.levels.main.parts part)
+    (within : IsWithin old.levels Main) (best : IsBest old.levels.main) (last : IsLast old.levels.main.parts part)
     (id : ℕ) (here : Contains part.ids id) (live : is_member old.levels.main.graph id ≡ true) (picked : HavePicks new.levels) where
   accepts_evicted : AcceptsHere old new Evict (Evicted part.rate part.ids)
   accepts_evicted state stands =
-      let next = after old new part.ids limits most begins alone still loses state stands
-      (inr (last_closed old.levels.main state.main part best stands.main last)) state.blocks in (
+      let next = after old new part.ids limits most begins alone still loses state.plain stands.plain
+      (inr (last_closed old.levels.main state.plain.main part best stands.plain.main last)) state.plain.blocks in
+      let pick = pick_is old state Main stands within in (
         next.0,
         next.1,
         record {
-          answer = (old.levels.main.parts, part, refl, last, refl);
-          change = (old.levels.main.parts, part, refl, last, next.2);
+          answer = (old.levels.main.parts, part, pick, last, refl);
+          change = (old.levels.main.parts, part, pick, last, next.2);
         },
       )
 

@@ -1,5 +1,5 @@
 -- What mining and eviction need of the levels that are kept.
-use Rattle.std.proofs.Common.{◌≡◌, ◌≢◌, ℕ, true, false, List, [], ◌∷◌, ◌++◌, map, flat_map, sym, refl, ap, subst, subst₂, ◌∙◌, inl, inr, ◌⊎◌, ◌↔◌, Option, None, Some, is_some, true≢false}
+use Rattle.std.proofs.Common.{◌≡◌, ◌≢◌, ℕ, true, false, List, [], ◌∷◌, ◌++◌, map, flat_map, sym, refl, ap, subst, subst₂, ◌∙◌, inl, inr, ◌↔◌, Option, None, Some, is_some, true≢false}
 use Rattle.std.specs.Prelude.{Contains, Bool, All, Ok, slice_index_or, ◌<◌, ◌^◌}
 use Rattle.std.proofs.lemmas.Bool.{false_from_ne_true}
 use Rattle.std.proofs.lemmas.List.{map-append, get_or_default}
@@ -9,12 +9,11 @@ use Rattle.lists.proofs.Cases.{none_of}
 use Rattle.lists.proofs.Entries.{none_in_empty, Contains-head}
 use Rattle.lists.proofs.Flats.{flat_has, flat_part_once}
 use Rattle.graphs.specs.declared.names.Level.TheVariants.{Main, Top}
-use Rattle.graphs.specs.Closures.{is_member, is_ancestor}
+use Rattle.graphs.specs.Closures.{is_member}
 use Rattle.graphs.specs.Certificates.{Part}
-use Rattle.graph_model.specs.declared.names.Limits.{Limits}
 use Rattle.graph_model.specs.declared.names.Picked.{Picked}
 use Rattle.graph_model.specs.declared.names.Refusal.{Refusal}
-use Rattle.graph_model.specs.declared.names.Refusal.TheVariants.{Twice, Unknown, Parent, Staging, Empty, Memory}
+use Rattle.graph_model.specs.declared.names.Refusal.TheVariants.{Twice, Unknown, Parent, Staging, Empty, Oversized}
 use Rattle.graph_model.specs.States.{PlainState, top_of}
 use Rattle.graph_model.specs.Commands.{Mine, Evict, HasTypes}
 use Rattle.graph_model.specs.Changes.{IsLast}
@@ -25,14 +24,17 @@ use Rattle.graph_model.proofs.RowLemmas.{first_at_along}
 use Rattle.graph_model.proofs.MinedLemmas.{can_mine}
 use Rattle.graph_model.proofs.PickReplies.{last_same}
 use Rattle.cluster_store.specs.Stores.{Shown}
-use Rattle.levels.specs.Levels.{OneLevel, Levels, ChangesTop, LosesNames, HavePicks, IsBest, level_at}
+use Rattle.levels.specs.Levels.{OneLevel, Levels, ChangesTop, LosesNames, HasPick, HavePicks, IsBest, IsWithin, level_at}
 use Rattle.levels.specs.Lefts.{DropsWithin}
+use Rattle.levels.specs.Oversize.{IsOversized}
 use Rattle.levels.specs.Mining.{LacksListed, MineRefusalIs}
-use Rattle.tx_graph.specs.Dropped.{IsPicked}
+use Rattle.tx_graph.specs.Dropped.{IsPicked, LastFails}
 use Rattle.tx_graph.specs.Kept.{Kept, StandsPlainly, MakesStep}
 use Rattle.tx_graph.specs.Sound.{IsSound}
 use Rattle.tx_graph.proofs.Calls.{kept_of, topped_same}
 use Rattle.tx_graph.proofs.Lost.{steps_mined, steps_evicted}
+use Rattle.tx_graph.proofs.Oversizing.{none_in_none, oversized_at}
+use Rattle.tx_graph.proofs.Picked.{pick_at}
 use Rattle.tx_graph.proofs.Rows.{ordered_row}
 use Rattle.tx_graph.proofs.Standing.{Meets, named, staged, steps_refused, steps_without_memory, told}
 
@@ -121,9 +123,9 @@ nothing_in : (xs : List ℕ) → ((x : ℕ) → Contains xs x → ⊥) → xs �
 nothing_in [] none = refl
 nothing_in (x ∷ xs) none = absurd (none x (Contains-head x xs))
 
-pub evict_empty : (kept : Kept) → is_some kept.levels.staging ≡ false → HavePicks kept.levels → kept.levels.main.parts ≡ [] → Meets kept Evict (Some Empty)
-evict_empty kept alone picked none state stands =
-    let order = (picked.0.picked state.main stands.main.closure).certificate.order.topological in
+pub evict_empty : (kept : Kept) → is_some kept.levels.staging ≡ false → HasPick kept.levels.main → kept.levels.main.parts ≡ [] → Meets kept Evict (Some Empty)
+evict_empty kept alone pick none state stands =
+    let order = (pick.picked state.main stands.main.closure).certificate.order.topological in
     inr (
       λ there. true≢false (sym there ∙ staged kept state stands ∙ alone),
       inl (
@@ -133,19 +135,25 @@ evict_empty kept alone picked none state stands =
       ),
     )
 
-pub evict_row : (kept : Kept) (id : ℕ) → is_some kept.levels.staging ≡ false → is_member kept.levels.main.graph id ≡ true → Meets kept Evict None
-evict_row kept id alone live state stands = inr (
+-- a level without names isn't over the limits, so one that is has a name
+pub evict_over : (kept : Kept) → is_some kept.levels.staging ≡ false → IsOversized kept.levels.limits kept.levels.main.graph → Meets kept Evict (Some Oversized)
+evict_over kept alone over state stands = inr (
   λ there. true≢false (sym there ∙ staged kept state stands ∙ alone),
   inr (
-    λ empty. none_in_empty id (subst (λ ns. Contains ns id) empty ((named kept state stands Main id).1 live)),
-    ordered_row kept Main state stands,
+    λ empty. none_in_none kept.levels.limits kept.levels.main.graph
+        (λ id live. none_in_empty id (subst (λ ns. Contains ns id) empty ((named kept state stands Main id).1 live))) over,
+    inl ((oversized_at kept state stands Main).0 over, refl),
   ),
 )
 
--- why the last part of main can't be had
-abbrev pub LastFails : Levels → Refusal → Type 0
-LastFails levels why =
-    ((why ≡ Memory) × ((part : Part) × IsLast levels.main.parts part)) ⊎ ((why ≡ Empty) × (levels.main.parts ≡ []))
+pub evict_row : (kept : Kept) (id : ℕ) → IsWithin kept.levels Main → is_some kept.levels.staging ≡ false → is_member kept.levels.main.graph id ≡ true → Meets kept Evict None
+evict_row kept id within alone live state stands = inr (
+  λ there. true≢false (sym there ∙ staged kept state stands ∙ alone),
+  inr (
+    λ empty. none_in_empty id (subst (λ ns. Contains ns id) empty ((named kept state stands Main id).1 live)),
+    ordered_row kept Main within state stands,
+  ),
+)
 
 -- the last part that a walk shows
 pub shown_last : (parts : List Part) (walk rest : List Shown) (s : Shown) → map (λ (x : Shown). x.part) walk ≡ parts → walk ≡ rest ++ s ∷ []
@@ -159,12 +167,12 @@ pub record IsInMain (levels : Levels) (ids : List ℕ) : Type 0 where
   pub live : (id : ℕ) → Contains ids id → is_member levels.main.graph id ≡ true
   pub some : (id : ℕ) × Contains ids id
 
-pub last_in : (kept : Kept) → IsSound kept → (part : Part) → IsLast kept.levels.main.parts part → IsInMain kept.levels part.ids
-last_in kept sound part last =
+pub last_in : (kept : Kept) → IsSound kept → HasPick kept.levels.main → (part : Part) → IsLast kept.levels.main.parts part → IsInMain kept.levels part.ids
+last_in kept sound has part last =
     let state = sound.stands.0.plain in
     let stands = sound.stands.1.plain in
     let parts = kept.levels.main.parts in
-    let pick = (sound.picked.0.picked state.main stands.main.closure).certificate in
+    let pick = (has.picked state.main stands.main.closure).certificate in
     let here : Contains parts part = subst (λ ps. Contains ps part) (sym last.1) (Contains-append_right last.0 (part ∷ []) part (Contains-head part [])) in
     record {
       once = flat_part_once (λ (p : Part). p.ids) parts part pick.order.topological.once here;
@@ -176,13 +184,20 @@ last_in kept sound part last =
 pub last_refused : (kept : Kept) → IsSound kept → is_some kept.levels.staging ≡ false → (why : Refusal) → LastFails kept.levels why
     → MakesStep kept kept Evict (Refused why)
 last_refused kept sound alone why fails = elim fails [
-  | inl lacks ↦
-      let in_main = last_in kept sound lacks.1.0 lacks.1.1 in
-      subst (λ w. MakesStep kept kept Evict (Refused w)) (sym lacks.0)
-      (steps_without_memory kept Evict tt (evict_row kept in_main.some.0 alone (in_main.live in_main.some.0 in_main.some.1)))
-  | inr none ↦
-      subst (λ w. MakesStep kept kept Evict (Refused w)) (sym none.0)
-      (steps_refused kept Evict Empty (evict_empty kept alone sound.picked none.1))
+  | inl over ↦
+      subst (λ w. MakesStep kept kept Evict (Refused w)) (sym over.0)
+      (steps_refused kept Evict Oversized (evict_over kept alone over.1))
+  | inr later ↦
+      let has = pick_at kept.levels Main sound.picked later.0 in
+      elim later.1 [
+        | inl none ↦
+            subst (λ w. MakesStep kept kept Evict (Refused w)) (sym none.0)
+            (steps_refused kept Evict Empty (evict_empty kept alone has none.1))
+        | inr lacks ↦
+            let in_main = last_in kept sound has lacks.1.0 lacks.1.1 in
+            subst (λ w. MakesStep kept kept Evict (Refused w)) (sym lacks.0)
+            (steps_without_memory kept Evict tt (evict_row kept in_main.some.0 later.0 alone (in_main.live in_main.some.0 in_main.some.1)))
+      ]
 ]
 
 -- ---- names that go from main
@@ -193,34 +208,36 @@ top_main levels alone = ap (top_of levels.main) (none_of levels.staging alone)
 
 -- a change of the top level is then one of main, and no staging is open after it
 lost_main : (old new : Levels) (ids : List ℕ) → is_some old.staging ≡ false → ChangesTop (λ a b. LosesNames a b ids) old new
-    → LosesNames old.main.graph new.main.graph ids × (new.staging ≡ None)
+    → LosesNames old.main.graph new.main.graph ids × (new.staging ≡ None) × (new.limits ≡ old.limits)
 lost_main old new ids alone change =
-    let made = (topped_same old new change.0 change.2).alone (none_of old.staging alone) in (
+    let topped = topped_same old new change.0 change.2 in
+    let made = topped.alone (none_of old.staging alone) in (
       subst₂ (λ (a b : OneLevel). LosesNames a.graph b.graph ids) (top_main old alone) (sym made.0) change.1,
       made.1,
+      topped.limits,
     )
 
-module _ (most : ℕ) (limits : Limits) (begun : Bool) (old new : Levels) (picked : HavePicks new) (alone : is_some old.staging ≡ false) where
+module _ (most : ℕ) (begun : Bool) (old new : Levels) (picked : HavePicks new) (alone : is_some old.staging ≡ false) where
   abbrev before : Kept
-  before = kept_of most limits begun old
+  before = kept_of most begun old
 
   abbrev after : Kept
-  after = kept_of most limits true new
+  after = kept_of most true new
 
   pub mine_step : (ids : List ℕ) → IsSound before → HasTypes (Mine ids) → MineRefusalIs old.main.graph ids None
       → ChangesTop (λ a b. LosesNames a b ids) old new → MakesStep before after (Mine ids) Done
   mine_step ids sound small row change =
       let lost = lost_main old new ids alone change in
       let one = some_in ids small.0 in
-      steps_mined before after ids refl refl refl (none_of old.staging alone) lost.1 lost.0 one.0 one.1
+      steps_mined before after ids lost.2 refl refl (none_of old.staging alone) lost.1 lost.0 one.0 one.1
       ((may_mine before ids sound alone row).1 one.0 one.1) picked small (mine_row before ids None alone row)
 
-  pub evict_step : (part : Part) → IsBest old.main → IsLast old.main.parts part → (id : ℕ) → Contains part.ids id → is_member old.main.graph id ≡ true
+  pub evict_step : (part : Part) → IsWithin old Main → IsBest old.main → IsLast old.main.parts part → (id : ℕ) → Contains part.ids id → is_member old.main.graph id ≡ true
       → ChangesTop (λ a b. LosesNames a b part.ids) old new → MakesStep before after Evict (Evicted part.rate part.ids)
-  evict_step part best last id here live change =
+  evict_step part within best last id here live change =
       let lost = lost_main old new part.ids alone change in
-      steps_evicted before after part refl refl refl (none_of old.staging alone) lost.1 lost.0 best last id here live picked
-      (evict_row before id alone live)
+      steps_evicted before after part lost.2 refl refl (none_of old.staging alone) lost.1 lost.0 within best last id here live picked
+      (evict_row before id within alone live)
 
 -- what is told of a part is the reply
 pub picked_told : (part : Part) (picked : Picked) → IsPicked part picked → Evicted part.rate part.ids ≡ evicted_reply (Ok picked)
@@ -228,8 +245,8 @@ picked_told part picked is = λ i. Evicted (record { fee = sym is.fee i; size = 
 
 -- the steps of a call that drops the last part of main
 pub dropped_last : (levels : Levels) (start end : ℕ) (ids : List ℕ) (last : Part) → IsLast levels.main.parts last → is_some levels.staging ≡ false
-    → ids ≡ last.ids → DropsWithin ids (level_at levels Top).graph start end
-    → (part : Part) → IsLast levels.main.parts part → DropsWithin part.ids levels.main.graph start end
+    → ids ≡ last.ids → DropsWithin levels.limits ids (level_at levels Top).graph start end
+    → (part : Part) → IsLast levels.main.parts part → DropsWithin levels.limits part.ids levels.main.graph start end
 dropped_last levels start end ids last one alone same drops part two =
-    subst₂ (λ (ns : List ℕ) (level : OneLevel). DropsWithin ns level.graph start end)
+    subst₂ (λ (ns : List ℕ) (level : OneLevel). DropsWithin levels.limits ns level.graph start end)
     (same ∙ ap (λ (p : Part). p.ids) (last_same levels.main.parts last part one two)) (top_main levels alone) drops

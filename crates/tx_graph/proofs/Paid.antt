@@ -80,7 +80,7 @@ staging_paid id fee a b (Some was) None staging alike sets of = absurd (true≢f
 staging_paid id fee a b (Some was) (Some now) None alike sets of = absurd of
 staging_paid id fee a b (Some was) (Some now) (Some graph) alike sets of = graph_paid id fee was now sets graph of
 
-module _ (old new : Kept) (id : ℕ) (fee : ℤ) (limits : new.limits ≡ old.limits) (most : new.most ≡ old.most) (begins : new.begun ≡ true)
+module _ (old new : Kept) (id : ℕ) (fee : ℤ) (most : new.most ≡ old.most) (begins : new.begun ≡ true)
     (live : IsLive old.levels id)
     (sets : SetsFeeIn id fee old.levels new.levels)
     (still : ((level : Level) → is_member (level_at old.levels level).graph id ≡ true → (rate_of (level_at old.levels level).graph id).fee ≡ fee)
@@ -130,7 +130,7 @@ module _ (old new : Kept) (id : ℕ) (fee : ℤ) (limits : new.limits ≡ old.li
   accepts_paid state stands = (
     with_fee state id fee,
     record {
-      limits = stands.limits ∙ ap bounds_of (sym limits);
+      limits = stands.limits ∙ ap bounds_of (sym sets.limits);
       most = stands.most ∙ sym most;
       begun = sym begins;
       table = rates_paid state.table stands.table;
@@ -156,6 +156,7 @@ module _ (old new : Kept) (id : ℕ) (fee : ℤ) (limits : new.limits ≡ old.li
     keeps_paid : KeepsParts old.levels new.levels
     keeps_paid = record {
       picked = picked;
+      limits = sets.limits;
       main = parts_paid Main;
       staging = λ a b was is.
           subst₂ (λ (x y : OneLevel). AreSameLevel x.graph y.graph → y.parts ≡ x.parts) (ap (top_of old.levels.main) was) (ap (top_of new.levels.main) is)

@@ -62,7 +62,7 @@ module _ (was top : OneLevel) (parent child : ℕ) (above : is_member was.graph 
       sym (same.above parent child) ∙ pair.ancestors parent child
       ∙ or_right (is_ancestor was.graph parent child) (is_ancestor was.graph parent parent && is_ancestor was.graph child child) across
 
-module _ (old new : Kept) (parent child : ℕ) (limits : new.limits ≡ old.limits) (most : new.most ≡ old.most) (begins : new.begun ≡ true)
+module _ (old new : Kept) (parent child : ℕ) (most : new.most ≡ old.most) (begins : new.begun ≡ true)
     (above : is_member (level_at old.levels Top).graph parent ≡ true) (below : is_member (level_at old.levels Top).graph child ≡ true)
     (no_way : is_ancestor (level_at old.levels Top).graph child parent ≡ false) (top : OneLevel)
     (pair : AddsPair (level_at old.levels Top).graph top.graph parent child) (topped : AreTopped old.levels top new.levels)
@@ -84,7 +84,7 @@ module _ (old new : Kept) (parent child : ℕ) (limits : new.limits ≡ old.limi
       let of = graph_at old state stands Top in
       let same = still ((of.closure.ancestors parent child above below).0 (1, (parent, refl, here))) in
       record {
-        limits = stands.limits ∙ ap bounds_of (sym limits);
+        limits = stands.limits ∙ ap bounds_of (sym topped.limits);
         most = stands.most ∙ sym most;
         begun = sym begins;
         table = subst (λ (l : Levels). HasRates l state.table) (sym same) stands.table;
@@ -95,7 +95,7 @@ module _ (old new : Kept) (parent child : ℕ) (limits : new.limits ≡ old.limi
   new_next : (state : PlainState) → StandsPlainly old state → (Contains (level_of state Top).pairs (parent, child) → ⊥)
       → StandsBarely new (with_top (begun state) (with_pair (level_of state Top) parent child))
   new_next state stands none =
-      stands_topped old new top limits most begins topped state stands state.table (with_pair (level_of state Top) parent child)
+      stands_topped old new top most begins topped state stands state.table (with_pair (level_of state Top) parent child)
       (graph_paired was top parent child above below no_way pair (level_of state Top) (graph_at old state stands Top) none) (rates_paired state stands)
 
   accepts_paired : AcceptsAll old new (Dep parent child) Done

@@ -9,9 +9,8 @@ use Rattle.graph_model.specs.Commands.{Command, Cluster, Ancestors, Descendants,
 use Rattle.graph_model.specs.Replies.{Reply, Ids, Number}
 use Rattle.graph_model.specs.States.{State, level_of}
 use Rattle.graph_model.specs.Steps.{AcceptsPlainly, KeepsPicks}
-use Rattle.graph_model.specs.Validity.{ArePicks}
 use Rattle.lists.proofs.Keys.{len-names}
-use Rattle.levels.specs.Levels.{OneLevel, HavePicks, level_at}
+use Rattle.levels.specs.Levels.{OneLevel, HavePicks, IsWithin, level_at}
 use Rattle.tx_graph.specs.Kept.{Kept, IsGraphOf, StandsFor, MakesStep}
 use Rattle.tx_graph.proofs.Standing.{Meets, graph_at, order_kept, told, connected-linked}
 use Rattle.tx_graph.proofs.Picked.{KeepsCommand, are_picks}
@@ -20,7 +19,7 @@ use Rattle.tx_graph.proofs.Rows.{name_row}
 -- a state keeps its picks where nothing changes
 keeps_itself : (kept : Kept) (state : State) → HavePicks kept.levels → StandsFor kept state → KeepsPicks state state
 keeps_itself kept state picked stands = record {
-  picks = subst (ArePicks state.plain) (sym stands.picks) (are_picks kept state.plain picked stands.plain);
+  picks = are_picks kept state.plain state.picks picked stands.plain stands.picks;
   main = λ _ _. refl;
   staging = λ _ _ _ _. refl;
 }
@@ -76,28 +75,28 @@ module _ (level : OneLevel) (graph : Graph) (of : IsGraphOf level graph) (id : �
   names_below = Lists-for (λ q. is_ancestor level.graph id q ≡ true) (λ d. IsAncestor graph.pairs id d) ids
       (λ q up. (told level graph of id q).1 (inr up)) (λ q walk. above_of id q (inl refl) walk)
 
-module _ (kept : Kept) (level : Level) (id : ℕ) (ids : List ℕ) (picked : HavePicks kept.levels)
+module _ (kept : Kept) (level : Level) (id : ℕ) (ids : List ℕ) (picked : HavePicks kept.levels) (within : IsWithin kept.levels level)
     (live : is_member (level_at kept.levels level).graph id ≡ true) where
   abbrev at : OneLevel
   at = level_at kept.levels level
 
   pub steps_clustered : Lists (λ q. AreLinked at.graph id q) ids → MakesStep kept kept (Cluster id level) (Ids ids)
   steps_clustered lists =
-      steps_told kept (Cluster id level) (Ids ids) picked (λ a b kept. kept) (name_row kept level id live) (λ state stands. record {
+      steps_told kept (Cluster id level) (Ids ids) picked (λ a b kept. kept) (name_row kept level id within live) (λ state stands. record {
         answer = (ids, names_linked at (level_of state.plain level) (graph_at kept state.plain stands.plain level) id ids live lists, refl);
         change = refl;
       })
 
   pub steps_ascended : Lists (λ q. is_ancestor at.graph q id ≡ true) ids → MakesStep kept kept (Ancestors id level) (Ids ids)
   steps_ascended lists =
-      steps_told kept (Ancestors id level) (Ids ids) picked (λ a b kept. kept) (name_row kept level id live) (λ state stands. record {
+      steps_told kept (Ancestors id level) (Ids ids) picked (λ a b kept. kept) (name_row kept level id within live) (λ state stands. record {
         answer = (ids, names_above at (level_of state.plain level) (graph_at kept state.plain stands.plain level) id ids live lists, refl);
         change = refl;
       })
 
   pub steps_descended : Lists (λ q. is_ancestor at.graph id q ≡ true) ids → MakesStep kept kept (Descendants id level) (Ids ids)
   steps_descended lists =
-      steps_told kept (Descendants id level) (Ids ids) picked (λ a b kept. kept) (name_row kept level id live) (λ state stands. record {
+      steps_told kept (Descendants id level) (Ids ids) picked (λ a b kept. kept) (name_row kept level id within live) (λ state stands. record {
         answer = (ids, names_below at (level_of state.plain level) (graph_at kept state.plain stands.plain level) id ids live lists, refl);
         change = refl;
       })

@@ -1,7 +1,8 @@
 -- The rows of refusals, by the levels that are kept.
 use Rattle.std.proofs.Common.{◌≡◌, ℕ, ℤ, ◌<◌, true, false, List, sym, refl, ap, subst, ◌∙◌, inl, inr, ◌⊎◌, ◌↔◌, Option, None, Some, is_some, true≢false}
 use Rattle.std.specs.Prelude.{Contains, sum_by}
-use Rattle.std.proofs.lemmas.Bool.{true_from_ne_false}
+use Rattle.std.proofs.lemmas.Bool.{false_from_ne_true, true_from_ne_false}
+use Rattle.lists.proofs.Cases.{none_of}
 use Rattle.lists.proofs.Walks.{Walk-keeps}
 use Rattle.fee_rate.specs.Limits.{IsFee}
 use Rattle.graphs.specs.declared.names.Level.{Level}
@@ -20,10 +21,13 @@ use Rattle.graph_model.specs.Oversize.{IsOversized}
 use Rattle.graph_model.specs.Refusals.{RefusalIs, First, NoRefusal, NameRow, CompareRow, IsAbsent, OverCount, OverSize}
 use Rattle.arithmetic.proofs.Sums.{sum_by_along}
 use Rattle.graph_model.proofs.RowLemmas.{first_along, first_at_along}
-use Rattle.levels.specs.Levels.{OneLevel, level_at, IsLive}
+use Rattle.levels.specs.Levels.{OneLevel, Levels, level_at, IsLive, IsWithin}
+use Rattle.levels.specs.Oversize as over_limits
 use Rattle.levels.specs.Joins.{JoinsTo, JoinsTooMany, JoinsTooLarge, DepRefusalIs}
 use Rattle.tx_graph.specs.Kept.{Kept, IsGraphOf, StandsPlainly}
-use Rattle.tx_graph.proofs.Standing.{none_oversized, order_kept, told, connected-linked, graph_at, named, staged, live_told, size_kept, Meets}
+use Rattle.tx_graph.specs.Readings.{CompareRefusalIs, NameRefusalIs}
+use Rattle.tx_graph.proofs.Oversizing.{none_over, oversized_at}
+use Rattle.tx_graph.proofs.Standing.{order_kept, told, connected-linked, graph_at, named, staged, live_told, size_kept, Meets}
 
 -- ---- limits
 
@@ -63,12 +67,6 @@ pub unknown_first : (kept : Kept) (level : Level) (id : ℕ) (later : Option Ref
     → (state : PlainState) → StandsPlainly kept state → First (IsAbsent state level id) (Unknown id) later (Some (Unknown id))
 unknown_first kept level id later fails state stands = inl (λ here. true≢false (sym ((named kept state stands level id).0 here) ∙ fails), refl)
 
--- of a reading of a name, and of the other commands
-pub unread_here : (kept : Kept) (level : Level) (id : ℕ) → is_member (level_at kept.levels level).graph id ≡ false
-    → (state : PlainState) → StandsPlainly kept state → NameRow (IsAbsent state level id) (IsOversized state level) id (Some (Unknown id))
-unread_here kept level id fails state stands =
-    unknown_first kept level id (First (IsOversized state level) Oversized NoRefusal) fails state stands
-
 pub unknown_here : (kept : Kept) (level : Level) (id : ℕ) → is_member (level_at kept.levels level).graph id ≡ false
     → (state : PlainState) → StandsPlainly kept state → First (IsAbsent state level id) (Unknown id) NoRefusal (Some (Unknown id))
 unknown_here kept level id = unknown_first kept level id NoRefusal
@@ -78,13 +76,23 @@ pub known_here : (kept : Kept) (level : Level) (id : ℕ) → is_member (level_a
 known_here kept level id holds state stands = inr (λ none. none ((named kept state stands level id).1 holds), refl)
 
 -- the row of a reading of an order
-pub ordered_row : (kept : Kept) (level : Level) (state : PlainState) → StandsPlainly kept state → First (IsOversized state level) Oversized NoRefusal None
-ordered_row kept level state stands = inr (none_oversized kept state stands level, refl)
+pub ordered_row : (kept : Kept) (level : Level) → IsWithin kept.levels level → (state : PlainState) → StandsPlainly kept state
+    → First (IsOversized state level) Oversized NoRefusal None
+ordered_row kept level within state stands = inr (none_over kept level within state stands, refl)
 
 -- the row of a reading of a name
-pub name_row : (kept : Kept) (level : Level) (id : ℕ) → is_member (level_at kept.levels level).graph id ≡ true
+pub name_row : (kept : Kept) (level : Level) (id : ℕ) → IsWithin kept.levels level → is_member (level_at kept.levels level).graph id ≡ true
     → (state : PlainState) → StandsPlainly kept state → NameRow (IsAbsent state level id) (IsOversized state level) id None
-name_row kept level id holds state stands = inr (λ none. none ((named kept state stands level id).1 holds), ordered_row kept level state stands)
+name_row kept level id within holds state stands =
+    inr (λ none. none ((named kept state stands level id).1 holds), ordered_row kept level within state stands)
+
+-- and where it is refused
+pub unread_row : (kept : Kept) (level : Level) (id : ℕ) (found : Option Refusal) → NameRefusalIs kept.levels level id found
+    → (state : PlainState) → StandsPlainly kept state → NameRow (IsAbsent state level id) (IsOversized state level) id found
+unread_row kept level id found row state stands =
+    let here = named kept state stands level id in
+    first_along (Unknown id) (λ none there. none (here.0 there), λ none member. none (here.1 member))
+    (first_along Oversized (oversized_at kept state stands level) (λ none. none)) row
 
 pub no_first_row : (kept : Kept) (a b : ℕ) → is_member kept.levels.main.graph a ≡ false → Meets kept (Before a b) (Some (Unknown a))
 no_first_row kept a b fails state stands = inl (λ here. true≢false (sym ((named kept state stands Main a).0 here) ∙ fails), refl)
@@ -94,10 +102,18 @@ pub no_second_row : (kept : Kept) (a b : ℕ) → is_member kept.levels.main.gra
 no_second_row kept a b holds fails state stands =
     inr (λ none. none ((named kept state stands Main a).1 holds), inl (λ here. true≢false (sym ((named kept state stands Main b).0 here) ∙ fails), refl))
 
-pub both_row : (kept : Kept) (a b : ℕ) → is_member kept.levels.main.graph a ≡ true → is_member kept.levels.main.graph b ≡ true
-    → Meets kept (Before a b) None
-both_row kept a b one two state stands =
-    inr (λ none. none ((named kept state stands Main a).1 one), name_row kept Main b two state stands)
+pub both_row : (kept : Kept) (a b : ℕ) → IsWithin kept.levels Main → is_member kept.levels.main.graph a ≡ true
+    → is_member kept.levels.main.graph b ≡ true → Meets kept (Before a b) None
+both_row kept a b within one two state stands =
+    inr (λ none. none ((named kept state stands Main a).1 one), name_row kept Main b within two state stands)
+
+pub over_row : (kept : Kept) (a b : ℕ) → over_limits.IsOversized kept.levels.limits kept.levels.main.graph → is_member kept.levels.main.graph a ≡ true
+    → is_member kept.levels.main.graph b ≡ true → Meets kept (Before a b) (Some Oversized)
+over_row kept a b over one two state stands =
+    inr (
+      λ none. none ((named kept state stands Main a).1 one),
+      inr (λ none. none ((named kept state stands Main b).1 two), inl ((oversized_at kept state stands Main).0 over, refl)),
+    )
 
 -- ---- a staging that must be open, or closed
 
@@ -124,21 +140,39 @@ open_row kept is state stands = inr (λ none. none (staged kept state stands ∙
 abbrev pub BothRow : PlainState → Option Refusal → Type 0
 BothRow state = CompareRow (IsStaged state → ⊥) (IsOversized state Main ⊎ IsOversized state Top)
 
-pub alone_row : (kept : Kept) → is_some kept.levels.staging ≡ false → (state : PlainState) → StandsPlainly kept state → BothRow state (Some NoStaging)
-alone_row kept is state stands = inl (λ there. true≢false (sym there ∙ staged kept state stands ∙ is), refl)
+-- neither level is over the limits
+abbrev pub AreWithin : Levels → Type 0
+AreWithin levels = IsWithin levels Main × IsWithin levels Top
 
-pub compare_row : (kept : Kept) → is_some kept.levels.staging ≡ true → (state : PlainState) → StandsPlainly kept state → BothRow state None
-compare_row kept is state stands =
+pub compare_row : (kept : Kept) → is_some kept.levels.staging ≡ true → AreWithin kept.levels → (state : PlainState) → StandsPlainly kept state
+    → BothRow state None
+compare_row kept is within state stands =
     inr (
       λ none. none (staged kept state stands ∙ is),
       inr (
         λ over. elim over [
-          | inl main ↦ none_oversized kept state stands Main main
-          | inr top ↦ none_oversized kept state stands Top top
+          | inl main ↦ none_over kept Main within.0 state stands main
+          | inr top ↦ none_over kept Top within.1 state stands top
         ],
         refl,
       ),
     )
+
+-- and where it is refused
+pub uncompared_row : (kept : Kept) (found : Option Refusal) → CompareRefusalIs kept.levels found → (state : PlainState) → StandsPlainly kept state
+    → BothRow state found
+uncompared_row kept found row state stands =
+    let is = staged kept state stands in
+    let main = oversized_at kept state stands Main in
+    let top = oversized_at kept state stands Top in
+    first_along NoStaging (
+      λ none there. true≢false (sym there ∙ is ∙ ap is_some none),
+      λ none. none_of kept.levels.staging (false_from_ne_true (is_some kept.levels.staging) (λ there. none (is ∙ there))),
+    )
+    (first_along Oversized (
+      λ over. elim over [ inl one ↦ inl (main.0 one) | inr two ↦ inr (top.0 two) ],
+      λ over. elim over [ inl one ↦ inl (main.1 one) | inr two ↦ inr (top.1 two) ],
+    ) (λ none. none)) row
 
 -- ---- pairs
 
@@ -183,13 +217,13 @@ module _ (kept : Kept) (state : PlainState) (stands : StandsPlainly kept state) 
     ),
   )
 
-  strict : state.limits.defer ≡ false
-  strict = ap (λ (b : Bounds). b.defer) stands.limits
+  defer : state.limits.defer ≡ kept.levels.limits.defer
+  defer = ap (λ (b : Bounds). b.defer) stands.limits
 
-  too_many : (n : ℕ) → JoinsTooMany kept.limits top.graph parent child n ↔ OverCount state parent child n
+  too_many : (n : ℕ) → JoinsTooMany kept.levels.limits top.graph parent child n ↔ OverCount state parent child n
   too_many n = (
-    λ many. (many.0, strict, (joins_to many.0).0 many.1, many.2, subst (λ (l : Bounds). l.count < n) (sym stands.limits) many.3),
-    λ many. (many.0, (joins_to many.0).1 many.2, many.3, subst (λ (l : Bounds). l.count < n) stands.limits many.4),
+    λ many. (many.0, defer ∙ many.1, (joins_to many.0).0 many.2, many.3, subst (λ (l : Bounds). l.count < n) (sym stands.limits) many.4),
+    λ many. (many.0, sym defer ∙ many.1, (joins_to many.0).1 many.2, many.3, subst (λ (l : Bounds). l.count < n) stands.limits many.4),
   )
 
   -- what is linked to a name of the level is one
@@ -212,18 +246,18 @@ module _ (kept : Kept) (state : PlainState) (stands : StandsPlainly kept state) 
         sum_by_along (size_of state.table) (λ id. (rate_of top.graph id).size) members
         (λ id here. size_kept kept.levels state.table stands.table Top id (members_here members joins id here))
 
-    too_large : (n : ℕ) → JoinsTooLarge kept.limits top.graph parent child n ↔ OverSize state parent child n
+    too_large : (n : ℕ) → JoinsTooLarge kept.levels.limits top.graph parent child n ↔ OverSize state parent child n
     too_large n = (
       λ large. (
         large.0,
-        strict,
-        (joins_to large.0).0 large.1,
-        large.2 ∙ sym (sizes large.0 large.1),
-        subst (λ (l : Bounds). l.size < n) (sym stands.limits) large.3,
+        defer ∙ large.1,
+        (joins_to large.0).0 large.2,
+        large.3 ∙ sym (sizes large.0 large.2),
+        subst (λ (l : Bounds). l.size < n) (sym stands.limits) large.4,
       ),
       λ large.
           let joins = (joins_to large.0).1 large.2 in
-          (large.0, joins, large.3 ∙ sizes large.0 joins, subst (λ (l : Bounds). l.size < n) stands.limits large.4),
+          (large.0, sym defer ∙ large.1, joins, large.3 ∙ sizes large.0 joins, subst (λ (l : Bounds). l.size < n) stands.limits large.4),
     )
 
     -- a name of the level is an ancestor of itself
@@ -239,7 +273,7 @@ module _ (kept : Kept) (state : PlainState) (stands : StandsPlainly kept state) 
   here_from : (id : ℕ) → ((is_member top.graph id ≡ true → ⊥) → ⊥) → is_member top.graph id ≡ true
   here_from id there = true_from_ne_false (is_member top.graph id) (λ fails. there (λ holds. true≢false (sym holds ∙ fails)))
 
-  dep_row_here : (found : Option Refusal) → DepRefusalIs kept.limits top.graph parent child found → RefusalIs state (Dep parent child) found
+  dep_row_here : (found : Option Refusal) → DepRefusalIs kept.levels.limits top.graph parent child found → RefusalIs state (Dep parent child) found
   dep_row_here found row = elim row [
     | inl here ↦ inl ((absent parent).0 here.0, here.1)
     | inr on ↦ inr (
@@ -258,6 +292,6 @@ module _ (kept : Kept) (state : PlainState) (stands : StandsPlainly kept state) 
     )
   ]
 
-pub dep_row : (kept : Kept) (parent child : ℕ) (found : Option Refusal) → DepRefusalIs kept.limits (level_at kept.levels Top).graph parent child found
+pub dep_row : (kept : Kept) (parent child : ℕ) (found : Option Refusal) → DepRefusalIs kept.levels.limits (level_at kept.levels Top).graph parent child found
     → Meets kept (Dep parent child) found
 dep_row kept parent child found row state stands = dep_row_here kept state stands parent child found row

@@ -1,6 +1,5 @@
 -- A staging is opened, becomes main, or is closed.
 use Rattle.std.proofs.Common.{◌≡◌, ℕ, true, false, sym, refl, ap, subst, ◌∙◌, inl, inr, None, Some, Option, is_some, true≢false}
-use Rattle.std.specs.Prelude.{option_map}
 use Rattle.std.specs.FinMap as finmap
 use Rattle.lists.proofs.Cases.{some_none, none_of}
 use Rattle.graphs.specs.declared.names.Level.{Level}
@@ -13,9 +12,9 @@ use Rattle.graph_model.specs.Replies.{Done}
 use Rattle.graph_model.specs.States.{PlainState, Picks, State, level_of, top_of}
 use Rattle.graph_model.specs.Steps.{CommitsPick}
 use Rattle.levels.specs.Levels.{OneLevel, Levels, HavePicks, level_at, IsLive}
-use Rattle.tx_graph.specs.Kept.{Kept, HasRates, IsGraphOf, IsStagingOf, StandsPlainly, StandsFor, MakesStep, entry_of, picks_of}
+use Rattle.tx_graph.specs.Kept.{Kept, HasRates, IsGraphOf, IsStagingOf, StandsPlainly, StandsFor, MakesStep, IsPickOf, ArePicksOf, entry_of}
 use Rattle.tx_graph.proofs.Standing.{StandsBarely, Meets, graph_at}
-use Rattle.tx_graph.proofs.Picked.{KeepsParts, pick_at, AcceptsAll, Follows, steps_made, steps_accepted}
+use Rattle.tx_graph.proofs.Picked.{KeepsParts, may_pick_at, staged_pick, AcceptsAll, Follows, steps_made, steps_accepted}
 use Rattle.tx_graph.proofs.Tables.{forgotten, stands_forgotten, forgets}
 use Rattle.tx_graph.proofs.Tops.{HasGraphs}
 
@@ -36,7 +35,7 @@ some_staged (Some one) is = (one, refl)
 
 -- ---- `stage`
 
-module _ (old new : Kept) (limits : new.limits ≡ old.limits) (most : new.most ≡ old.most) (begins : new.begun ≡ true)
+module _ (old new : Kept) (most : new.most ≡ old.most) (begins : new.begun ≡ true)
     (alone : is_some old.levels.staging ≡ false) (levels : new.levels ≡ opened old.levels) where
   top_main : level_at old.levels Top ≡ old.levels.main
   top_main = ap (top_of old.levels.main) (none_of old.levels.staging alone)
@@ -54,7 +53,7 @@ module _ (old new : Kept) (limits : new.limits ≡ old.limits) (most : new.most 
   accepts_opened state stands = (
     staged state,
     record {
-      limits = stands.limits ∙ ap bounds_of (sym limits);
+      limits = stands.limits ∙ ap (λ (l : Levels). bounds_of l.limits) (sym levels);
       most = stands.most ∙ sym most;
       begun = sym begins;
       table = subst (λ (l : Levels). HasRates l state.table) (sym levels) (rates_opened state stands);
@@ -64,9 +63,14 @@ module _ (old new : Kept) (limits : new.limits ≡ old.limits) (most : new.most 
     λ picks. record { answer = refl; change = refl },
   )
 
-  -- staging has main's parts
+  -- staging has main's pick
   picks_opened : Follows old new Stage
-  picks_opened state next stood stands = ap picks_of levels ∙ ap (λ (p : Picks). record { main = p.main; staging = Some p.main }) (sym stood.picks)
+  picks_opened state next stood stands = (
+    record { main = state.picks.main; staging = Some state.picks.main },
+    subst (λ (l : Levels). ArePicksOf l (record { main = state.picks.main; staging = Some state.picks.main })) (sym levels)
+        (record { main = stood.picks.main; staging = stood.picks.main }),
+    refl,
+  )
 
   pub steps_opened : Meets old Stage None → MakesStep old new Stage Done
   steps_opened none = steps_made old new Stage Done tt none accepts_opened picks_opened
@@ -76,7 +80,7 @@ picks_of_opened levels picked = (picked.0, picked.0)
 
 -- ---- `commit`
 
-module _ (old new : Kept) (limits : new.limits ≡ old.limits) (most : new.most ≡ old.most) (begins : new.begun ≡ true)
+module _ (old new : Kept) (most : new.most ≡ old.most) (begins : new.begun ≡ true)
     (levels : new.levels ≡ committed old.levels) where
   module _ (state : PlainState) (stands : StandsPlainly old state) where
     abbrev pub main_next : PlainState
@@ -84,7 +88,7 @@ module _ (old new : Kept) (limits : new.limits ≡ old.limits) (most : new.most 
 
     pub graphs_committed : HasGraphs new main_next
     graphs_committed = record {
-      limits = stands.limits ∙ ap bounds_of (sym limits);
+      limits = stands.limits ∙ ap (λ (l : Levels). bounds_of l.limits) (sym levels);
       most = stands.most ∙ sym most;
       begun = sym begins;
       main = subst (λ (l : Levels). IsGraphOf l.main (level_of state Top)) (sym levels) (graph_at old state stands Top);
@@ -114,25 +118,28 @@ module _ (old new : Kept) (limits : new.limits ≡ old.limits) (most : new.most 
     λ picks. record { answer = refl; change = commits state stands },
   )
 
-  -- main has the parts that staging had
-  pub commits_pick : is_some old.levels.staging ≡ true → (state : State) → StandsFor old state → CommitsPick state.picks (picks_of new.levels)
+  -- main has the pick that staging had
+  pub commits_pick : is_some old.levels.staging ≡ true → (state : State) → StandsFor old state
+      → (picks : Picks) × ArePicksOf new.levels picks × CommitsPick state.picks picks
   commits_pick open_is state stands =
       let one = some_staged old.levels.staging open_is in
-      let main : new.levels.main ≡ one.0 = ap (λ (l : Levels). l.main) levels ∙ ap (top_of old.levels.main) one.1 in (
-        ap (λ (p : Picks). p.staging) stands.picks ∙ ap (option_map (λ (l : OneLevel). Some l.parts)) one.1
-            ∙ ap (λ (l : OneLevel). Some (Some l.parts)) (sym main),
-        ap (λ (l : Levels). (picks_of l).staging) levels,
+      let pick = staged_pick old.levels.limits old.levels.staging state.picks.staging one.0 one.1 stands.picks.staging in
+      let top : level_at old.levels Top ≡ one.0 = ap (top_of old.levels.main) one.1 in (
+        record { main = pick.0; staging = None },
+        subst (λ (l : Levels). ArePicksOf l (record { main = pick.0; staging = None })) (sym levels)
+            (record { main = subst (λ (l : OneLevel). IsPickOf old.levels.limits l pick.0) (sym top) pick.2; staging = tt }),
+        (pick.1, refl),
       )
 
   pub steps_committed : is_some old.levels.staging ≡ true → Meets old Commit None → MakesStep old new Commit Done
   steps_committed open_is none = steps_made old new Commit Done tt none accepts_committed (λ state next stood stands. commits_pick open_is state stood)
 
 pub picks_of_committed : (levels : Levels) → HavePicks levels → HavePicks (committed levels)
-picks_of_committed levels picked = (pick_at levels Top picked, tt)
+picks_of_committed levels picked = (may_pick_at levels Top picked, tt)
 
 -- ---- `abort`
 
-module _ (old new : Kept) (limits : new.limits ≡ old.limits) (most : new.most ≡ old.most) (begins : new.begun ≡ true)
+module _ (old new : Kept) (most : new.most ≡ old.most) (begins : new.begun ≡ true)
     (levels : new.levels ≡ aborted old.levels) where
   module _ (state : PlainState) (stands : StandsPlainly old state) where
     abbrev pub main_left : PlainState
@@ -140,7 +147,7 @@ module _ (old new : Kept) (limits : new.limits ≡ old.limits) (most : new.most 
 
     pub graphs_aborted : HasGraphs new main_left
     graphs_aborted = record {
-      limits = stands.limits ∙ ap bounds_of (sym limits);
+      limits = stands.limits ∙ ap (λ (l : Levels). bounds_of l.limits) (sym levels);
       most = stands.most ∙ sym most;
       begun = sym begins;
       main = subst (λ (l : Levels). IsGraphOf l.main state.main) (sym levels) stands.main;
@@ -174,6 +181,7 @@ module _ (old new : Kept) (limits : new.limits ≡ old.limits) (most : new.most 
   pub keeps_aborted : HavePicks old.levels → KeepsParts old.levels new.levels
   keeps_aborted picked = record {
     picked = subst HavePicks (sym levels) (picked.0, tt);
+    limits = ap (λ (l : Levels). l.limits) levels;
     main = λ _. ap (λ (l : Levels). l.main.parts) levels;
     staging = λ a b was is _. absurd (some_none b (sym is ∙ ap (λ (l : Levels). l.staging) levels));
   }

@@ -11,18 +11,16 @@ use Rattle.graphs.proofs.ClosingLemmas.{order_from, ancestors_told, connected_li
 use Rattle.cluster.specs.Clusters.{sum_at}
 use Rattle.graph_model.specs.declared.names.Refusal.{Refusal}
 use Rattle.graph_model.specs.declared.names.Refusal.TheVariants.{Memory}
-use Rattle.graph_model.specs.Limits.{Bounds, bounds_of}
-use Rattle.graph_model.specs.Oversize.{IsOversized}
+use Rattle.graph_model.specs.Limits.{bounds_of}
 use Rattle.graph_model.specs.Validity.{IsValid}
-use Rattle.graph_model.proofs.ValidLemmas.{top_level}
-use Rattle.graph_model.specs.States.{PlainState, Picks, Table, level_of, pick_of, top_of, sum_in, size_of, IsStaged}
+use Rattle.graph_model.specs.States.{PlainState, Table, level_of, top_of, sum_in, size_of}
 use Rattle.graph_model.specs.States as states
 use Rattle.graph_model.specs.Commands.{Command}
 use Rattle.graph_model.specs.Refusals.{RefusalIs}
 use Rattle.graph_model.specs.Replies.{Refused}
 use Rattle.graph_model.specs.Steps.{MayLackMemory}
 use Rattle.levels.specs.Levels.{OneLevel, Levels, level_at, IsLive}
-use Rattle.tx_graph.specs.Kept.{Kept, HasRates, IsGraphOf, IsStagingOf, StandsPlainly, MakesStep, picks_of}
+use Rattle.tx_graph.specs.Kept.{Kept, HasRates, IsGraphOf, IsStagingOf, StandsPlainly, MakesStep}
 
 -- ---- one level
 
@@ -41,7 +39,7 @@ module _ (level : OneLevel) (graph : Graph) (of : IsGraphOf level graph) where
 
 -- A graph stands for a plain state, but that this is valid.
 pub record StandsBarely (kept : Kept) (state : PlainState) : Type 0 where
-  pub limits : state.limits ≡ bounds_of kept.limits
+  pub limits : state.limits ≡ bounds_of kept.levels.limits
   pub most : state.most ≡ kept.most
   pub begun : state.begun ≡ kept.begun
   pub table : HasRates kept.levels state.table
@@ -58,13 +56,6 @@ made_valid kept state stands valid = record {
   staging = stands.staging;
   valid = valid;
 }
-
--- no dependency may pass the limits of a graph, so no level is over them
-pub none_oversized : (kept : Kept) (state : PlainState) → StandsPlainly kept state → (level : Level) → IsOversized state level → ⊥
-none_oversized kept state stands = elim [ Main ↦ stands.valid.main.within strict | Top ↦ (top_level state stands.valid).within strict ]
-  where
-    strict : state.limits.defer ≡ false
-    strict = ap (λ (b : Bounds). b.defer) stands.limits
 
 -- ---- both levels
 
@@ -108,15 +99,6 @@ module _ (kept : Kept) (state : PlainState) (stands : StandsPlainly kept state) 
 
   pub staged : is_some state.staging ≡ is_some kept.levels.staging
   staged = staged_alike kept.levels.staging state.staging stands.staging
-
-pub picks_at : (levels : Levels) (level : Level) → pick_of (picks_of levels) level ≡ Some (level_at levels level).parts
-picks_at levels Main = refl
-picks_at levels Top = by levels.staging
-  where
-    by : (staging : Option OneLevel)
-        → pick_of (picks_of (record levels { staging = staging })) Top ≡ Some (level_at (record levels { staging = staging }) Top).parts
-    by None = refl
-    by (Some one) = refl
 
 -- ---- what is live
 

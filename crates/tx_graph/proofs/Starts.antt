@@ -1,5 +1,5 @@
 -- A graph without names stands for the start.
-use Rattle.std.proofs.Common.{◌≡◌, ◌≤◌, ℕ, true, false, [], sym, refl, ap, subst, ◌∙◌, is_some, true≢false}
+use Rattle.std.proofs.Common.{◌≡◌, ◌≤◌, ℕ, true, false, [], sym, refl, ap, subst, ◌∙◌, inr, is_some, true≢false}
 use Rattle.std.specs.FinMap as finmap
 use Rattle.std.specs.FinSet as set
 use Rattle.std.specs.Ordering.{nat_cmp}
@@ -14,7 +14,9 @@ use Rattle.graph_model.proofs.StepLemmas.{valid_at_start}
 use Rattle.graph_model.specs.States.{empty_graph}
 use Rattle.tx_graph.specs.Kept.{IsGraphOf, StandsFor, start_within}
 use Rattle.levels.specs.Levels.{Levels, HavePicks, empty_level, no_names}
+use Rattle.levels.specs.Oversize.{IsOversized}
 use Rattle.tx_graph.proofs.Calls.{kept_of}
+use Rattle.tx_graph.proofs.Oversizing.{none_in_none}
 
 no_member : (id : ℕ) → is_member empty_level.graph id ≡ false
 unfolding is_member
@@ -63,12 +65,17 @@ graph_of_none = record {
   };
 }
 
-pub picks_none : (levels : Levels) → levels ≡ no_names → HavePicks levels
-picks_none levels is =
-    subst HavePicks (sym is) (record { picked = no_parts_picked; uncut = λ graph closes part here. absurd (none_in_empty part here) }, tt)
+-- it isn't over any limits
+none_over_here : (limits : Limits) → IsOversized limits empty_level.graph → ⊥
+none_over_here limits = none_in_none limits empty_level.graph (λ id member. none_live id member)
+
+pub picks_none : (levels : Levels) (limits : Limits) → levels ≡ no_names limits → HavePicks levels
+picks_none levels limits is =
+    subst HavePicks (sym is)
+    (inr (none_over_here limits, record { picked = no_parts_picked; uncut = λ graph closes part here. absurd (none_in_empty part here) }), tt)
 
 module _ (most : ℕ) (limits : Limits) (wide : most ≤ MAX_COUNT) (in_range : AreInRange most (bounds_of limits)) where
-  none_stands : StandsFor (kept_of most limits false no_names) (start_within most limits)
+  none_stands : StandsFor (kept_of most false (no_names limits)) (start_within most limits)
   none_stands = record {
     plain = record {
       most = refl;
@@ -82,8 +89,8 @@ module _ (most : ℕ) (limits : Limits) (wide : most ≤ MAX_COUNT) (in_range : 
       staging = tt;
       valid = valid_at_start most (bounds_of limits) wide in_range;
     };
-    picks = refl;
+    picks = record { main = (none_over_here limits, refl); staging = tt };
   }
 
-  pub stands_start : (levels : Levels) → levels ≡ no_names → StandsFor (kept_of most limits false levels) (start_within most limits)
-  stands_start levels is = subst (λ (l : Levels). StandsFor (kept_of most limits false l) (start_within most limits)) (sym is) none_stands
+  pub stands_start : (levels : Levels) → levels ≡ no_names limits → StandsFor (kept_of most false levels) (start_within most limits)
+  stands_start levels is = subst (λ (l : Levels). StandsFor (kept_of most false l) (start_within most limits)) (sym is) none_stands

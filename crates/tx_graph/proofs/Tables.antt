@@ -8,7 +8,7 @@ use Rattle.graphs.specs.Closures.{is_member, rate_of}
 use Rattle.graph_model.specs.States.{PlainState, Table}
 use Rattle.graph_model.specs.Changes.{IsKept, Forgets}
 use Rattle.levels.specs.Levels.{Levels, level_at, IsLive}
-use Rattle.tx_graph.specs.Kept.{Kept, HasRates, StandsPlainly, entry_of}
+use Rattle.tx_graph.specs.Kept.{Kept, HasRates, entry_of}
 use Rattle.tx_graph.proofs.Standing.{StandsBarely, top_graph, live_at}
 use Rattle.tx_graph.proofs.Tops.{HasGraphs, with_rates}
 

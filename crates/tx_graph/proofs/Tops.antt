@@ -7,6 +7,7 @@ use Rattle.graphs.specs.declared.names.Level.{Level}
 use Rattle.graphs.specs.declared.names.Level.TheVariants.{Main, Top}
 use Rattle.graphs.specs.Closures.{is_member, rate_of}
 use Rattle.graphs.specs.Graphs.{Graph}
+use Rattle.graph_model.specs.declared.names.Limits.{Limits}
 use Rattle.graph_model.specs.Limits.{bounds_of}
 use Rattle.graph_model.specs.States.{PlainState, Table, with_top, top_of}
 use Rattle.graph_model.specs.Changes.{begun}
@@ -19,21 +20,22 @@ use Rattle.tx_graph.proofs.Picked.{AreSameLevel, KeepsParts}
 
 -- the levels after a change that leaves this top level
 pub record AreTopped (old : Levels) (top : OneLevel) (new : Levels) : Type 0 where
+  pub limits : new.limits ≡ old.limits
   pub alone : old.staging ≡ None → (new.main ≡ top) × (new.staging ≡ None)
   pub staged : (was : OneLevel) → old.staging ≡ Some was → (new.main ≡ old.main) × (new.staging ≡ Some top)
 
-topped_in : (main : OneLevel) (staging : Option OneLevel) (issued : ℕ) (top : OneLevel)
-    → AreTopped (record { main = main; staging = staging; issued = issued }) top
-    (levels.with_top (record { main = main; staging = staging; issued = issued }) top)
-topped_in main None issued top = record { alone = λ is. (refl, refl); staged = λ was is. absurd (some_none was (sym is)) }
-topped_in main (Some one) issued top = record { alone = λ is. absurd (some_none one is); staged = λ was is. (refl, refl) }
+topped_in : (limits : Limits) (main : OneLevel) (staging : Option OneLevel) (issued : ℕ) (top : OneLevel)
+    → AreTopped (record { limits = limits; main = main; staging = staging; issued = issued }) top
+    (levels.with_top (record { limits = limits; main = main; staging = staging; issued = issued }) top)
+topped_in limits main None issued top = record { limits = refl; alone = λ is. (refl, refl); staged = λ was is. absurd (some_none was (sym is)) }
+topped_in limits main (Some one) issued top = record { limits = refl; alone = λ is. absurd (some_none one is); staged = λ was is. (refl, refl) }
 
 pub topped_from : (old : Levels) (top : OneLevel) → AreTopped old top (levels.with_top old top)
-topped_from old top = topped_in old.main old.staging old.issued top
+topped_from old top = topped_in old.limits old.main old.staging old.issued top
 
 -- the same where names were added, and however many
 pub topped_with : (old : Levels) (top : OneLevel) (n : ℕ) → AreTopped old top (record (levels.with_top old top) { issued = n })
-topped_with old top n = let topped = topped_from old top in record { alone = topped.alone; staged = topped.staged }
+topped_with old top n = let topped = topped_from old top in record { limits = topped.limits; alone = topped.alone; staged = topped.staged }
 
 module _ (old new : Levels) (top : OneLevel) (topped : AreTopped old top new) where
   by_staging : (staging : Option OneLevel) → old.staging ≡ staging → level_at new Top ≡ top
@@ -91,6 +93,7 @@ module _ (old new : Levels) (top : OneLevel) (topped : AreTopped old top new) wh
   pub keeps_topped : HavePicks new → (AreSameLevel (level_at old Top).graph top.graph → top.parts ≡ (level_at old Top).parts) → KeepsParts old new
   keeps_topped picked keeps = record {
     picked = picked;
+    limits = topped.limits;
     main = keeps_alone picked keeps old.staging refl;
     staging = λ a b was is same.
         let first : level_at old Top ≡ a = ap (top_of old.main) was in
@@ -102,7 +105,7 @@ module _ (old new : Levels) (top : OneLevel) (topped : AreTopped old top new) wh
 
 -- A graph stands for a state but for what the table has of names.
 pub record HasGraphs (kept : Kept) (state : PlainState) : Type 0 where
-  pub limits : state.limits ≡ bounds_of kept.limits
+  pub limits : state.limits ≡ bounds_of kept.levels.limits
   pub most : state.most ≡ kept.most
   pub begun : state.begun ≡ kept.begun
   pub main : IsGraphOf kept.levels.main state.main
@@ -118,7 +121,7 @@ with_rates kept state has rates = record {
   staging = has.staging;
 }
 
-module _ (old new : Kept) (top : OneLevel) (limits : new.limits ≡ old.limits) (most : new.most ≡ old.most) (begins : new.begun ≡ true)
+module _ (old new : Kept) (top : OneLevel) (most : new.most ≡ old.most) (begins : new.begun ≡ true)
     (topped : AreTopped old.levels top new.levels)
     (state : PlainState) (stands : StandsPlainly old state) (table : Table) (graph : Graph) (of : IsGraphOf top graph) where
   abbrev base : PlainState
@@ -129,7 +132,7 @@ module _ (old new : Kept) (top : OneLevel) (limits : new.limits ≡ old.limits) 
       (λ alone.
       let made = topped.alone (closed_level old.levels.staging state.staging stands.staging alone) in
       record {
-        limits = stands.limits ∙ ap bounds_of (sym limits);
+        limits = stands.limits ∙ ap bounds_of (sym topped.limits);
         most = stands.most ∙ sym most;
         begun = sym begins;
         main = subst (λ (l : OneLevel). IsGraphOf l graph) (sym made.0) of;
@@ -139,7 +142,7 @@ module _ (old new : Kept) (top : OneLevel) (limits : new.limits ≡ old.limits) 
       let was = open_level old.levels.staging state.staging other stands.staging open_is in
       let made = topped.staged was.0 was.1 in
       record {
-        limits = stands.limits ∙ ap bounds_of (sym limits);
+        limits = stands.limits ∙ ap bounds_of (sym topped.limits);
         most = stands.most ∙ sym most;
         begun = sym begins;
         main = subst (λ (l : OneLevel). IsGraphOf l state.main) (sym made.0) stands.main;

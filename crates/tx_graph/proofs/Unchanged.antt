@@ -3,6 +3,7 @@ use Rattle.std.proofs.Common.{◌≡◌, ◌≢◌, ℕ, ◌+◌, ◌≤◌, Opt
 use Rattle.graphs.specs.declared.names.Verdict.{Verdict}
 use Rattle.graphs.specs.declared.names.Verdict.TheVariants.{Better, Worse, Equal, Incomparable}
 use Rattle.cluster.specs.Steps.{GrowsWithin}
+use Rattle.graph_model.specs.declared.names.Limits.{Limits}
 use Rattle.levels.specs.Levels.{OneLevel, Levels}
 use Rattle.levels.specs.Levels as levels
 use Rattle.levels.specs.Stays.{AllStay}
@@ -23,14 +24,14 @@ plus_none n = omega arith
 pub not_larger : (steps : ℕ) → steps ≤ steps
 not_larger steps = omega arith
 
-issued_in : (main : OneLevel) (staging : Option OneLevel) (issued : ℕ) (top : OneLevel)
-    → (levels.with_top (record { main = main; staging = staging; issued = issued }) top).issued ≡ issued
-issued_in main None issued top = refl
-issued_in main (Some one) issued top = refl
+issued_in : (limits : Limits) (main : OneLevel) (staging : Option OneLevel) (issued : ℕ) (top : OneLevel)
+    → (levels.with_top (record { limits = limits; main = main; staging = staging; issued = issued }) top).issued ≡ issued
+issued_in limits main None issued top = refl
+issued_in limits main (Some one) issued top = refl
 
 -- another top level adds no name
 pub issued_topped : (old new : Levels) (top : OneLevel) → new ≡ levels.with_top old top → new.issued ≡ old.issued
-issued_topped old new top is = ap (λ (l : Levels). l.issued) is ∙ issued_in old.main old.staging old.issued top
+issued_topped old new top is = ap (λ (l : Levels). l.issued) is ∙ issued_in old.limits old.main old.staging old.issued top
 
 -- a settlement adds no name
 pub issued_settled : (old new : Levels) (verdict : Verdict) → (verdict ≡ Better → new ≡ committed old) → (verdict ≢ Better → new ≡ aborted old)

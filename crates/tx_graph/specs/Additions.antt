@@ -2,7 +2,6 @@
 use Rattle.std.specs.Prelude.{◌≡◌, ℕ, ℤ, ◌<◌, ◌≤◌, List, length, Option}
 use Rattle.fee_rate.specs.Limits.{IsFee, IsSize}
 use Rattle.graphs.specs.Graphs.{Lists}
-use Rattle.graph_model.specs.declared.names.Limits.{Limits}
 use Rattle.graph_model.specs.declared.names.Refusal.{Refusal}
 use Rattle.graph_model.specs.Refusals.{AddRow}
 use Rattle.levels.specs.Levels.{Levels, IsLive}
@@ -12,6 +11,6 @@ abbrev pub CountsLive : Levels → ℕ → Type 0
 CountsLive levels live = (ids : List ℕ) → Lists (IsLive levels) ids → live ≡ length ids
 
 -- the refusal that an addition meets where so many names are live
-abbrev pub AddRefusalIs : Limits → Levels → ℕ → ℕ → ℤ → ℕ → Option Refusal → Type 0
-AddRefusalIs limits levels live id fee size =
-    AddRow (IsFee fee → ⊥) (IsSize size → ⊥) (IsLive levels id) (limits.size < size) (limits.total ≤ live) size
+abbrev pub AddRefusalIs : Levels → ℕ → ℕ → ℤ → ℕ → Option Refusal → Type 0
+AddRefusalIs levels live id fee size =
+    AddRow (IsFee fee → ⊥) (IsSize size → ⊥) (IsLive levels id) (levels.limits.size < size) (levels.limits.total ≤ live) size

@@ -1,12 +1,18 @@
 -- Parts that are dropped, and parts with the numbers of their clusters.
-use Rattle.std.specs.Prelude.{◌≡◌, ◌↔◌, ℕ, ◌*◌, ◌≤◌, unsigned_abs, List, Contains}
+use Rattle.std.specs.Prelude.{◌≡◌, ◌↔◌, ◌⊎◌, ℕ, ◌*◌, ◌≤◌, unsigned_abs, List, [], Contains}
 use Rattle.fee_rate.specs.declared.limits.TheConstants.{MAX_FEE}
+use Rattle.graphs.specs.declared.names.Level.TheVariants.{Main}
 use Rattle.graphs.specs.Graphs.{Graph}
 use Rattle.graphs.specs.Certificates.{Part}
 use Rattle.graph_model.specs.declared.names.Picked.{Picked}
+use Rattle.graph_model.specs.declared.names.Refusal.{Refusal}
+use Rattle.graph_model.specs.declared.names.Refusal.TheVariants.{Empty, Memory, Oversized}
 use Rattle.graph_model.specs.Blocks.{IsBlock, ShareComponent}
+use Rattle.graph_model.specs.Changes.{IsLast}
 use Rattle.graph_model.specs.States.{State}
 use Rattle.cluster_store.specs.Stores.{Shown}
+use Rattle.levels.specs.Levels.{Levels, IsBest, IsWithin}
+use Rattle.levels.specs.Oversize.{IsOversized}
 use Rattle.tx_graph.specs.Kept.{Kept, StandsFor}
 
 -- what is told of a part: its names in their order, with their fee and size
@@ -14,6 +20,20 @@ pub record IsPicked (part : Part) (picked : Picked) : Type 0 where
   pub fee : picked.fee ≡ part.rate.fee
   pub size : picked.size ≡ part.rate.size
   pub ids : picked.ids ≡ part.ids
+
+-- The last part of main, told so; main isn't over the limits, and its parts are an optimal order.
+pub record IsLastOf (levels : Levels) (part : Part) (picked : Picked) : Type 0 where
+  pub within : IsWithin levels Main
+  pub best : IsBest levels.main
+  pub last : IsLast levels.main.parts part
+  pub told : IsPicked part picked
+
+-- Why the last part of main can't be had: main is over the limits; or it isn't, and has no part, or there is no memory.
+abbrev pub LastFails : Levels → Refusal → Type 0
+LastFails levels why =
+    ((why ≡ Oversized) × IsOversized levels.limits levels.main.graph)
+    ⊎ (IsWithin levels Main
+    × (((why ≡ Empty) × (levels.main.parts ≡ [])) ⊎ ((why ≡ Memory) × ((part : Part) × IsLast levels.main.parts part))))
 
 -- two parts have one number exactly where they are of one component
 abbrev pub AreOfClusters : Graph → List Shown → Type 0

@@ -1,5 +1,5 @@
 -- What a transaction graph keeps, and which states it stands for.
-use Rattle.std.specs.Prelude.{◌≡◌, ℕ, Bool, true, [], Option, None, Some, option_map, refl}
+use Rattle.std.specs.Prelude.{◌≡◌, ℕ, Bool, true, List, [], Option, None, Some, refl}
 use Rattle.std.specs.Coded.{Coded, code_by, coded×, coded_ℕ, coded_bool}
 use Rattle.std.specs.FinMap as finmap
 use Rattle.fee_rate.specs.declared.rates.FeeRate.{FeeRate}
@@ -7,6 +7,7 @@ use Rattle.graphs.specs.declared.names.Level.{Level}
 use Rattle.graphs.specs.Closures.{is_member, is_ancestor, rate_of}
 use Rattle.graphs.specs.Closing.{IsClosureOf}
 use Rattle.graphs.specs.Graphs.{Graph, IsGraph}
+use Rattle.graphs.specs.Certificates.{Part}
 use Rattle.graph_model.specs.declared.names.Limits.{Limits}
 use Rattle.graph_model.specs.Limits.{bounds_of}
 use Rattle.graph_model.specs.Commands.{Command}
@@ -15,25 +16,19 @@ use Rattle.graph_model.specs.States.{Entry, Table, Picks, PlainState, State, pla
 use Rattle.graph_model.specs.Steps.{Step}
 use Rattle.graph_model.specs.Validity.{IsValid}
 use Rattle.levels.specs.Levels.{OneLevel, Levels, levels_code, level_at, IsLive}
+use Rattle.levels.specs.Oversize.{IsOversized}
 
--- The most names that the limit of a cluster may allow, the limits, whether a change was accepted, and the levels: of each its names with
--- their fees, sizes and ancestors, and the parts of its order. Neither pairs nor mined blocks are kept.
+-- The most names that the limit of a cluster may allow, whether a change was accepted, and the levels: the limits in force, and of each level its
+-- names with their fees, sizes and ancestors, and the parts of its order. Neither pairs nor mined blocks are kept.
 pub record Kept : Type 0 where
   pub most : ℕ
-  pub limits : Limits
   pub begun : Bool
   pub levels : Levels
 
 abbrev pub kept_code : Coded Kept
 kept_code =
-    code_by ((ℕ × (ℕ × (ℕ × ℕ))) × (Bool × Levels)) (coded× (coded× coded_ℕ (coded× coded_ℕ (coded× coded_ℕ coded_ℕ))) (coded× coded_bool levels_code))
-    (λ k. ((k.most, (k.limits.count, (k.limits.size, k.limits.total))), (k.begun, k.levels)))
-    (λ p. record {
-      most = p.0.0;
-      limits = record { count = p.0.1.0; size = p.0.1.1.0; total = p.0.1.1.1 };
-      begun = p.1.0;
-      levels = p.1.1;
-    }) (λ _. refl)
+    code_by (ℕ × (Bool × Levels)) (coded× coded_ℕ (coded× coded_bool levels_code)) (λ k. (k.most, (k.begun, k.levels)))
+    (λ p. record { most = p.0; begun = p.1.0; levels = p.1.1 }) (λ _. refl)
 
 -- what a table has of a name of this fee and size
 abbrev pub entry_of : FeeRate → Entry
@@ -59,10 +54,10 @@ IsStagingOf (Some level) (Some graph) = IsGraphOf level graph
 IsStagingOf None (Some graph) = ⊥
 IsStagingOf (Some level) None = ⊥
 
--- A graph stands for each valid plain state with its limits, which no dependency may pass, a table of its names, and for each level that it
--- keeps a graph of that closure. Of mined blocks nothing is said.
+-- A graph stands for each valid plain state with its limits, a table of its names, and for each level that it keeps a graph of that closure. Of
+-- mined blocks nothing is said.
 pub record StandsPlainly (kept : Kept) (state : PlainState) : Type 0 where
-  pub limits : state.limits ≡ bounds_of kept.limits
+  pub limits : state.limits ≡ bounds_of kept.levels.limits
   pub most : state.most ≡ kept.most
   pub begun : state.begun ≡ kept.begun
   pub table : HasRates kept.levels state.table
@@ -70,15 +65,28 @@ pub record StandsPlainly (kept : Kept) (state : PlainState) : Type 0 where
   pub staging : IsStagingOf kept.levels.staging state.staging
   pub valid : IsValid state
 
--- the parts of each level
-abbrev pub picks_of : Levels → Picks
-picks_of levels = record { main = Some levels.main.parts; staging = option_map (λ (level : OneLevel). Some level.parts) levels.staging }
+-- The pick of a level: its parts. A level that is over the limits has none.
+abbrev pub IsPickOf : Limits → OneLevel → Option (List Part) → Type 0
+IsPickOf limits level None = IsOversized limits level.graph
+IsPickOf limits level (Some pick) = (IsOversized limits level.graph → ⊥) × (pick ≡ level.parts)
 
--- It stands for the states with such a plain state and with its parts as the picks. They differ in pairs that other pairs imply, and in
--- the order in which they list names and pairs.
+-- the same of a staging, where there is one
+abbrev pub IsStagingPickOf : Limits → Option OneLevel → Option (Option (List Part)) → Type 0
+IsStagingPickOf limits None None = Unit {0}
+IsStagingPickOf limits (Some level) (Some pick) = IsPickOf limits level pick
+IsStagingPickOf limits None (Some pick) = ⊥
+IsStagingPickOf limits (Some level) None = ⊥
+
+-- the picks of both levels
+pub record ArePicksOf (levels : Levels) (picks : Picks) : Type 0 where
+  pub main : IsPickOf levels.limits levels.main picks.main
+  pub staging : IsStagingPickOf levels.limits levels.staging picks.staging
+
+-- It stands for the states with such a plain state and with these picks. They differ in pairs that other pairs imply, and in the order in
+-- which they list names and pairs.
 pub record StandsFor (kept : Kept) (state : State) : Type 0 where
   pub plain : StandsPlainly kept state.plain
-  pub picks : state.picks ≡ picks_of kept.levels
+  pub picks : ArePicksOf kept.levels state.picks
 
 -- the state at the start, where a cluster may be allowed so many names, under these limits
 abbrev pub start_within : ℕ → Limits → State

@@ -4,11 +4,12 @@ ghost use Rattle.std.specs.Iterator.{IsFinite};
 ghost use Rattle.std.specs.Iterator.Adapters.{rev_source};
 ghost use Rattle.graphs.specs.Closures.{is_member, is_ancestor, rate_of, AreLinked};
 ghost use Rattle.graphs.specs.declared.names.Level as words;
-ghost use Rattle.graphs.specs.declared.names.Level.TheVariants.{Top};
+ghost use Rattle.graphs.specs.declared.names.Level.TheVariants.{Main, Top};
 ghost use Rattle.graphs.specs.declared.names.Verdict.TheVariants.{Better};
 ghost use Rattle.graphs.specs.Graphs.{Lists};
 ghost use Rattle.graph_model.specs.Limits.{AreInRange, bounds_of};
 ghost use Rattle.graph_model.specs.declared.names.Refusal.TheVariants.{Memory, NoStaging};
+ghost use Rattle.graph_model.specs.Oversize as model;
 ghost use Rattle.graph_model.specs.States.{State, level_of, IsStaged};
 ghost use Rattle.graph_model.specs.Answers.{order_of};
 ghost use Rattle.graphs.specs.Certificates.{Part};
@@ -18,21 +19,25 @@ ghost use Rattle.graph_model.specs.Replies.{Reply, Number, Parts, Points, Proves
 ghost use Rattle.graph_model.specs.Texts.{Text};
 ghost use Rattle.diagram.specs.Points.{YieldsCorners};
 ghost use Rattle.graphs.specs.Rates.{sum_of};
-ghost use Rattle.cluster.specs.Steps.{GrowsWithin, most_steps};
+ghost use Rattle.cluster.specs.Clusters.{IsCluster};
+ghost use Rattle.cluster.specs.Steps.{GrowsWithin};
+ghost use Rattle.record.specs.Steps.{most_steps_fit};
 ghost use Rattle.cluster_store.specs.Held.{Held as HeldPart};
 ghost use Rattle.levels.specs.Held.{IsHeldIn};
 ghost use Rattle.tx_graph.specs.Additions.{AddRefusalIs, CountsLive};
 ghost use Rattle.tx_graph.specs.Kept.{Kept, StandsFor, MakesStep, start_within};
 ghost use Rattle.levels.specs.Lefts.{DropsWithin};
-ghost use Rattle.levels.specs.Levels.{GrowsForFee, IsLive, level_at};
+ghost use Rattle.levels.specs.Levels.{GrowsForFee, IsLive, IsWithin, level_at};
 ghost use Rattle.levels.specs.Orders.{ListsCovers, sums_of};
+ghost use Rattle.levels.specs.Oversize.{IsOversized};
+ghost use Rattle.levels.specs.Views.{IsClusterOf};
 ghost use Rattle.tx_graph.specs.Dropped.{AreOfClusters, ArePaidBySize, IsBlockOf};
-ghost use Rattle.tx_graph.specs.Readings.{AreMinimalIn, IsBestOrder, IsTextOf, part_reply, place_reply, compare_reply, settle_reply};
+ghost use Rattle.tx_graph.specs.Readings.{AreMinimalIn, CompareRefusalIs, IsBestOrder, IsTextOf, NameRefusalIs, part_reply, place_reply, compare_reply, settle_reply};
 ghost use Rattle.levels.specs.Stays.{AllStay};
 
 use crate::order::{Diagram, Forward, Held, Numbered, Order, OrderBack};
 use cluster::PartRef;
-use component::Covers;
+use component::{Component, Covers};
 use diagram::corners;
 use fee_rate::FeeRate;
 use graph_model::{IdBuf, Level, Limits, Place, Refusal, TxId, Verdict, is_fee, is_size};
@@ -49,14 +54,18 @@ use step_count::{Ledger, Steps};
 /// ancestors came from. So a value stands for every state of the machine with these ancestors and these orders, and each call
 /// is a step of the machine from each such state (clause `step`). A call that is refused leaves the graph as it was.
 ///
-/// A call that changes a level solves the clusters that it makes, and no others. The solver counts its steps in the caller's
-/// ledger. A cluster with the same transactions, ancestors, fees and sizes as before keeps its chunks and their flows, in their
-/// order, whatever the call answers (clause `stays`). To open, commit or drop a staging solves nothing.
+/// Where [`Limits::defer`] is set, a dependency may bring a cluster over the limits of a cluster. Its level is then *oversized* until it
+/// is mended, say by a removal: it has no order, and what reads one is refused with [`Refusal::Oversized`], or has as a condition that the
+/// level isn't oversized. All other calls are answered as ever.
+///
+/// A call that changes a level solves the clusters that it makes, and no others. It solves none that is over the limits. The solver
+/// counts its steps in the caller's ledger. A cluster with the same transactions, ancestors, fees and sizes as before keeps its
+/// chunks and their flows, in their order, whatever the call answers (clause `stays`). To open, commit or drop a staging solves
+/// nothing.
 ///
 /// Fees are in satoshis, sizes in virtual bytes.
 #[derive(Drop)]
 pub struct TxGraph<const W: usize> {
-    limits: Limits,
     pub(crate) begun: bool,
     pub(crate) alloc: Global,
     pub(crate) levels: Levels<W>,
@@ -72,9 +81,9 @@ impl<const W: usize> Model for TxGraph<W> {
 
     ghost coded = { kept_code };
 
-    ghost view = { λ a. record { most = 64 * W; limits = a.limits; begun = a.begun; levels = a.levels } };
+    ghost view = { λ a. record { most = 64 * W; begun = a.begun; levels = a.levels } };
 
-    ghost invariant = { λ a. IsSound (record { most = 64 * W; limits = a.limits; begun = a.begun; levels = a.levels }) };
+    ghost invariant = { λ a. IsSound (record { most = 64 * W; begun = a.begun; levels = a.levels }) };
 }
 
 /// Whether a name is in main or in staging.
@@ -85,16 +94,10 @@ fn is_live<const W: usize>(levels: &Levels<W>, id: TxId) -> bool
 }
 
 /// Why `add` is refused, other than for want of memory.
-fn refused_add<const W: usize>(
-    limits: &Limits,
-    levels: &Levels<W>,
-    id: TxId,
-    fee: i64,
-    size: u64,
-) -> Option<Refusal>
-    ensures row { (live : ℕ) → CountsLive levels.now live
-        → AddRefusalIs limits.now levels.now live id fee size result }
+fn refused_add<const W: usize>(levels: &Levels<W>, id: TxId, fee: i64, size: u64) -> Option<Refusal>
+    ensures row { (live : ℕ) → CountsLive levels.now live → AddRefusalIs levels.now live id fee size result }
 {
+    let limits = levels.limits();
     if !is_fee(fee) {
         return Some(Refusal::Fee);
     }
@@ -122,6 +125,50 @@ fn needs_staging<const W: usize>(levels: &Levels<W>) -> Result<(), Refusal>
         return Err(Refusal::NoStaging);
     }
     Ok(())
+}
+
+/// Refuses where no staging is open, and else where one of the levels is oversized.
+fn needs_orders<const W: usize>(levels: &Levels<W>) -> Result<(), Refusal>
+    ensures { MatchResult result
+        (λ _. IsSome levels.now.staging × IsWithin levels.now Main × IsWithin levels.now Top)
+        (λ why. CompareRefusalIs levels.now (Some why)) }
+{
+    needs_staging(levels)?;
+    if levels.oversized(Level::Main) || levels.oversized(Level::Top) {
+        return Err(Refusal::Oversized);
+    }
+    Ok(())
+}
+
+/// Why a reading of a transaction is refused on a level that is oversized.
+fn refused_over<const W: usize>(levels: &Levels<W>, level: Level, id: TxId) -> Refusal
+    requires { IsOversized levels.now.limits (level_at levels.now level).graph }
+    ensures { NameRefusalIs levels.now level id (Some result) }
+{
+    if !levels.has(level, id) {
+        return Refusal::Unknown(id);
+    }
+    Refusal::Oversized
+}
+
+/// The cluster of a transaction. Refuses where the level hasn't the transaction, and else where it is oversized.
+fn cluster_of<const W: usize>(
+    levels: &Levels<W>,
+    level: Level,
+    id: TxId,
+) -> Result<&Component<W>, Refusal>
+    ensures { MatchResult result
+        (λ c. (is_member (level_at levels.now level).graph id ≡ true) × IsWithin levels.now level
+        × IsClusterOf (level_at levels.now level).graph id c.now × IsCluster (64 * W) c.now)
+        (λ why. NameRefusalIs levels.now level id (Some why)) }
+{
+    if levels.oversized(level) {
+        return Err(refused_over(levels, level, id));
+    }
+    match levels.find(level, id) {
+        Some(cluster) => Ok(cluster),
+        None => Err(Refusal::Unknown(id)),
+    }
 }
 
 /// Commits a staging that is better, and drops any other.
@@ -161,11 +208,26 @@ impl<const W: usize> TxGraph<W> {
         ensures additions { IfOk result (λ graph. graph.levels.issued ≡ 0) }
     {
         Ok(TxGraph {
-            limits,
             begun: false,
             alloc,
-            levels: Levels::new(alloc)?,
+            levels: Levels::new(alloc, limits)?,
         })
+    }
+
+    /// The limits in force.
+    pub fn limits(&self) -> Limits
+        ensures { result ≡ self.now.levels.limits }
+    {
+        self.levels.limits()
+    }
+
+    /// Whether a level is oversized: one of its components has more transactions, or a greater size, than a cluster may have. It never
+    /// is where the limits don't let a dependency pass them ([`Limits::defer`]). Takes no memory.
+    pub fn oversized(&self, level: Level) -> bool
+        ensures exact { IsTrue result ↔ IsOversized self.now.levels.limits (level_at self.now.levels level).graph }
+        ensures state { (state : State) → StandsFor self.now state → IsTrue result ↔ model.IsOversized state.plain level }
+    {
+        self.levels.oversized(level)
     }
 
     /// How many calls of [`add`](TxGraph::add) were accepted since the graph was made.
@@ -194,7 +256,7 @@ impl<const W: usize> TxGraph<W> {
         if !limits.are_in_range(most_names::<W>()) {
             return Err(Refusal::Range);
         }
-        self.limits = limits;
+        self.levels.set_limits(limits);
         self.begun = true;
         Ok(())
     }
@@ -224,7 +286,7 @@ impl<const W: usize> TxGraph<W> {
         ensures additions { self.new.levels.issued ≡ self.old.levels.issued + (if is_ok result then 1 else 0) }
         ensures steps { steps.new ≡ steps.old }
     {
-        if let Some(why) = refused_add(&self.limits, &self.levels, id, fee, size) {
+        if let Some(why) = refused_add(&self.levels, id, fee, size) {
             return Err(why);
         }
         if self.levels.add(id, fee, size, steps).is_err() {
@@ -238,8 +300,8 @@ impl<const W: usize> TxGraph<W> {
     /// stay as they are.
     ///
     /// A new dependency joins the clusters of the two, where they are in different ones. The solver takes at most 2·(n+2)^5
-    /// steps for a cluster of n transactions that comes of this. It takes none where the parent is an ancestor already, nor
-    /// where the call is refused for another reason than memory.
+    /// steps for a cluster of n transactions that comes of this. It takes none for one that is over the limits, none where the
+    /// parent is an ancestor already, nor where the call is refused for another reason than memory.
     ///
     /// # Errors
     ///
@@ -247,8 +309,9 @@ impl<const W: usize> TxGraph<W> {
     ///
     /// - [`Refusal::Unknown`], with the name: the parent isn't in the top level; or the child isn't.
     /// - [`Refusal::Cycle`]: the child is an ancestor of the parent, or the parent itself.
-    /// - [`Refusal::Count`], [`Refusal::ClusterSize`]: the two clusters are different, and together have more transactions, or a
-    ///   greater size, than a cluster may have. The refusal tells the number or the size that they have together.
+    /// - [`Refusal::Count`], [`Refusal::ClusterSize`]: no dependency may pass the limits, and the two clusters are different, and
+    ///   together have more transactions, or a greater size, than a cluster may have. The refusal tells the number or the size
+    ///   that they have together.
     /// - [`Refusal::Memory`]: there is no memory.
     pub fn dep<L: Ledger>(
         &mut self,
@@ -264,9 +327,9 @@ impl<const W: usize> TxGraph<W> {
         ensures steps { (ids : List ℕ)
             → Lists (λ q. AreLinked (level_at self.old.levels Top).graph q parent
             ⊎ AreLinked (level_at self.old.levels Top).graph q child) ids
-            → GrowsWithin (most_steps (length ids)) steps.old steps.new }
+            → GrowsWithin (most_steps_fit self.old.levels.limits (level_at self.old.levels Top).graph ids) steps.old steps.new }
     {
-        self.levels.dep(&self.limits, parent, child, steps)?;
+        self.levels.dep(parent, child, steps)?;
         self.begun = true;
         Ok(())
     }
@@ -275,8 +338,8 @@ impl<const W: usize> TxGraph<W> {
     /// and orders stay as they are.
     ///
     /// The solver takes at most 2·(n+2)^5 steps for the transaction's cluster of n transactions, one cluster for each level that
-    /// has the transaction. It takes none where the fee is the same, nor where the call is refused for another reason than
-    /// memory.
+    /// has the transaction. It takes none for one that is over the limits, none where the fee is the same, nor where the call is
+    /// refused for another reason than memory.
     ///
     /// # Errors
     ///
@@ -317,7 +380,7 @@ impl<const W: usize> TxGraph<W> {
     /// that they had among them.
     ///
     /// The solver takes at most the sum of 2·(n+2)^5 steps over the clusters of n transactions that are left of the
-    /// transaction's cluster. It takes none where the call is refused for another reason than memory.
+    /// transaction's cluster and are within the limits. It takes none where the call is refused for another reason than memory.
     ///
     /// # Errors
     ///
@@ -330,7 +393,7 @@ impl<const W: usize> TxGraph<W> {
         ensures stays { AllStay self.old.levels self.new.levels }
         ensures additions { self.new.levels.issued ≡ self.old.levels.issued }
         ensures refused { IfErr result (λ why. why ≢ Memory → steps.new ≡ steps.old) }
-        ensures steps { DropsWithin (id ∷ []) (level_at self.old.levels Top).graph steps.old steps.new }
+        ensures steps { DropsWithin self.old.levels.limits (id ∷ []) (level_at self.old.levels Top).graph steps.old steps.new }
     {
         if !self.levels.has(Level::Top, id) {
             return Err(Refusal::Unknown(id));
@@ -401,11 +464,14 @@ impl<const W: usize> TxGraph<W> {
     ///
     /// # Errors
     ///
-    /// Answers [`Refusal::NoStaging`] exactly where no staging is open.
+    /// Answers the first of these that holds:
+    ///
+    /// - [`Refusal::NoStaging`]: no staging is open.
+    /// - [`Refusal::Oversized`]: main or staging is oversized.
     pub fn compare(&self) -> Result<Verdict, Refusal>
         ensures step { MakesStep self.now self.now Compare (compare_reply result) }
     {
-        needs_staging(&self.levels)?;
+        needs_orders(&self.levels)?;
         let found = self.levels.compare();
         Ok(found)
     }
@@ -415,12 +481,15 @@ impl<const W: usize> TxGraph<W> {
     ///
     /// # Errors
     ///
-    /// Answers [`Refusal::NoStaging`], and leaves the graph as it was, exactly where no staging is open.
+    /// Answers the first of these that holds, and leaves the graph as it was, so that an open staging stays open:
+    ///
+    /// - [`Refusal::NoStaging`]: no staging is open.
+    /// - [`Refusal::Oversized`]: main or staging is oversized.
     pub fn settle(&mut self) -> Result<Verdict, Refusal>
         ensures step { MakesStep self.old self.new Settle (settle_reply result) }
         ensures additions { self.new.levels.issued ≡ self.old.levels.issued }
     {
-        needs_staging(&self.levels)?;
+        needs_orders(&self.levels)?;
         let verdict = self.levels.compare();
         close(&mut self.levels, verdict);
         self.begun = true;
@@ -431,16 +500,17 @@ impl<const W: usize> TxGraph<W> {
     ///
     /// # Errors
     ///
-    /// Answers [`Refusal::Unknown`], and leaves `out` as it was, exactly where the transaction isn't in the level.
+    /// Answers the first of these that holds, and leaves `out` as it was:
+    ///
+    /// - [`Refusal::Unknown`]: the transaction isn't in the level.
+    /// - [`Refusal::Oversized`]: the level is oversized.
     pub fn cluster(&self, level: Level, id: TxId, out: &mut IdBuf) -> Result<(), Refusal>
         requires { 64 * W ≤ length out.old.ids + out.old.room }
         ensures step { MakesStep self.now self.now (Cluster id level) (names_reply result out.new.ids) }
         ensures room { length out.new.ids + out.new.room ≡ length out.old.ids + out.old.room }
         ensures err { OnErr result (out.new ≡ out.old) }
     {
-        let Some(cluster) = self.levels.find(level, id) else {
-            return Err(Refusal::Unknown(id));
-        };
+        let cluster = cluster_of(&self.levels, level, id)?;
         cluster.list_names(out);
         Ok(())
     }
@@ -449,16 +519,17 @@ impl<const W: usize> TxGraph<W> {
     ///
     /// # Errors
     ///
-    /// Answers [`Refusal::Unknown`], and leaves `out` as it was, exactly where the transaction isn't in the level.
+    /// Answers the first of these that holds, and leaves `out` as it was:
+    ///
+    /// - [`Refusal::Unknown`]: the transaction isn't in the level.
+    /// - [`Refusal::Oversized`]: the level is oversized.
     pub fn ancestors(&self, level: Level, id: TxId, out: &mut IdBuf) -> Result<(), Refusal>
         requires { 64 * W ≤ length out.old.ids + out.old.room }
         ensures step { MakesStep self.now self.now (Ancestors id level) (names_reply result out.new.ids) }
         ensures room { length out.new.ids + out.new.room ≡ length out.old.ids + out.old.room }
         ensures err { OnErr result (out.new ≡ out.old) }
     {
-        let Some(cluster) = self.levels.find(level, id) else {
-            return Err(Refusal::Unknown(id));
-        };
+        let cluster = cluster_of(&self.levels, level, id)?;
         cluster.list_ancestors(id, out);
         Ok(())
     }
@@ -467,27 +538,29 @@ impl<const W: usize> TxGraph<W> {
     ///
     /// # Errors
     ///
-    /// Answers [`Refusal::Unknown`], and leaves `out` as it was, exactly where the transaction isn't in the level.
+    /// Answers the first of these that holds, and leaves `out` as it was:
+    ///
+    /// - [`Refusal::Unknown`]: the transaction isn't in the level.
+    /// - [`Refusal::Oversized`]: the level is oversized.
     pub fn descendants(&self, level: Level, id: TxId, out: &mut IdBuf) -> Result<(), Refusal>
         requires { 64 * W ≤ length out.old.ids + out.old.room }
         ensures step { MakesStep self.now self.now (Descendants id level) (names_reply result out.new.ids) }
         ensures room { length out.new.ids + out.new.room ≡ length out.old.ids + out.old.room }
         ensures err { OnErr result (out.new ≡ out.old) }
     {
-        let Some(cluster) = self.levels.find(level, id) else {
-            return Err(Refusal::Unknown(id));
-        };
+        let cluster = cluster_of(&self.levels, level, id)?;
         cluster.list_descendants(id, out);
         Ok(())
     }
 
     /// The chunks of a level in the level's order, each with its fee and size, its transactions, and the flows that certify it.
-    /// Takes no memory.
+    /// The level isn't oversized. Takes no memory.
     ///
     /// The order is an optimal linearization of the whole level: no front of any linearization lies above its feerate diagram. No
     /// chunk can be split further: no smaller set of its transactions, closed within it, has its feerate. A certificate text that
     /// lists these chunks is what the machine answers to `proof`.
     pub fn order(&self, level: Level) -> Order<'_, W>
+        requires within { IsWithin self.now.levels level }
         ensures parts { result ≡ (level_at self.now.levels level).parts }
         ensures step { MakesStep self.now self.now (commands.Order level) (Parts result) }
         ensures best { (state : State) → StandsFor self.now state → IsBestOrder state level result }
@@ -502,6 +575,7 @@ impl<const W: usize> TxGraph<W> {
 
     /// The same chunks from the last to the first. Takes no memory.
     pub fn order_back(&self, level: Level) -> OrderBack<'_, W>
+        requires within { IsWithin self.now.levels level }
         ensures { rev_source result ≡ (level_at self.now.levels level).parts }
     {
         self.order(level).rev()
@@ -511,6 +585,7 @@ impl<const W: usize> TxGraph<W> {
     /// each, and its parents with no third transaction between, as they stand in the level's order. Sets of names have at most two
     /// words. Takes no memory.
     pub fn held(&self, level: Level) -> Held<'_, W>
+        requires within { IsWithin self.now.levels level }
         ensures parts { map (λ h. h.part) result ≡ (level_at self.now.levels level).parts }
         ensures clusters { (h : HeldPart) → Contains result h → IsHeldIn (level_at self.now.levels level) h }
         ensures narrow { W ≤ 2 }
@@ -519,10 +594,11 @@ impl<const W: usize> TxGraph<W> {
     }
 
     /// The chunks of main in main's order, each with the number of its cluster. Two chunks have one number exactly where they are of
-    /// one cluster. Takes no memory.
+    /// one cluster. Main isn't oversized. Takes no memory.
     ///
     /// The chunks that a block takes of these are what the machine answers to `block`.
     pub fn numbered(&self) -> Numbered<'_, W>
+        requires within { IsWithin self.now.levels Main }
         ensures parts { map (λ s. s.part) result ≡ self.now.levels.main.parts }
         ensures numbers { (state : State) → StandsFor self.now state → AreOfClusters state.plain.main result }
         ensures rates { ArePaidBySize self.now.levels.main.parts }
@@ -533,21 +609,23 @@ impl<const W: usize> TxGraph<W> {
         self.levels.parts(Level::Main)
     }
 
-    /// A size, in virtual bytes, that no transaction of main is below, and so no chunk. Takes no memory.
+    /// A size, in virtual bytes, that no transaction of main is below, and so no chunk where main isn't oversized. Takes no memory.
     pub fn least(&self) -> u64
         ensures names { (id : ℕ) → is_member self.now.levels.main.graph id ≡ true
             → result ≤ (rate_of self.now.levels.main.graph id).size }
-        ensures parts { (part : Part) → Contains self.now.levels.main.parts part → result ≤ part.rate.size }
+        ensures parts { IsWithin self.now.levels Main → (part : Part) → Contains self.now.levels.main.parts part
+            → result ≤ part.rate.size }
     {
         self.levels.least()
     }
 
     /// The corners of a level's feerate diagram, from (0, 0) on: sizes in virtual bytes, each with the most that a closed set of
-    /// that size pays, in satoshis. Takes no memory.
+    /// that size pays, in satoshis. The level isn't oversized. Takes no memory.
     ///
     /// The corners are the ends of the chunks, where chunks of equal feerate count as one. Every optimal order of the level has
     /// the same corners.
     pub fn diagram(&self, level: Level) -> Diagram<'_, W>
+        requires within { IsWithin self.now.levels level }
         ensures can { ⟦<Diagram<'static, W> as Iterator>⟧.can_next result }
         ensures ends { IsFinite (⟦<Diagram<'static, W> as Iterator>⟧.remaining result) }
         ensures step { (points : List (ℕ × ℤ)) × YieldsCorners ⟦<Diagram<'static, W> as Iterator>⟧.next_gives result points
@@ -560,10 +638,16 @@ impl<const W: usize> TxGraph<W> {
     ///
     /// # Errors
     ///
-    /// Answers [`Refusal::Unknown`] exactly where the transaction isn't in main.
+    /// Answers the first of these that holds:
+    ///
+    /// - [`Refusal::Unknown`]: the transaction isn't in main.
+    /// - [`Refusal::Oversized`]: main is oversized.
     pub fn chunk(&self, id: TxId) -> Result<PartRef<'_>, Refusal>
         ensures step { MakesStep self.now self.now (Chunk id) (part_reply result) }
     {
+        if self.levels.oversized(Level::Main) {
+            return Err(refused_over(&self.levels, Level::Main, id));
+        }
         match self.levels.chunk(id) {
             Some(part) => Ok(part),
             None => Err(Refusal::Unknown(id)),
@@ -575,7 +659,10 @@ impl<const W: usize> TxGraph<W> {
     ///
     /// # Errors
     ///
-    /// Answers [`Refusal::Unknown`], with the first of the two that isn't in main.
+    /// Answers the first of these that holds:
+    ///
+    /// - [`Refusal::Unknown`], with the first of the two that isn't in main.
+    /// - [`Refusal::Oversized`]: main is oversized.
     pub fn before(&self, a: TxId, b: TxId) -> Result<Place, Refusal>
         ensures step { MakesStep self.now self.now (Before a b) (place_reply result) }
     {
@@ -585,13 +672,17 @@ impl<const W: usize> TxGraph<W> {
         if !self.levels.has(Level::Main, b) {
             return Err(Refusal::Unknown(b));
         }
+        if self.levels.oversized(Level::Main) {
+            return Err(Refusal::Oversized);
+        }
         Ok(self.levels.place(a, b))
     }
 
     /// The parents of a transaction with no third transaction between, as they stand in the level's order. Takes no memory. The
-    /// transaction is in the level.
+    /// transaction is in the level, and the level isn't oversized.
     pub fn covers(&self, level: Level, id: TxId) -> Covers<'_, W>
-        requires { is_member (level_at self.now.levels level).graph id ≡ true }
+        requires within { IsWithin self.now.levels level }
+        requires live { is_member (level_at self.now.levels level).graph id ≡ true }
         ensures { ListsCovers (level_at self.now.levels level).graph (order_of (level_at self.now.levels level).parts) id
             result }
     {
@@ -618,8 +709,8 @@ impl<const W: usize> TxGraph<W> {
         requires { is_member (level_at self.now.levels level).graph id ≡ true }
         ensures { result ≡ rate_of (level_at self.now.levels level).graph id }
     {
-        match self.levels.find(level, id) {
-            Some(cluster) => cluster.rate(id),
+        match self.levels.rate(level, id) {
+            Some(rate) => rate,
             None => unreachable!(),
         }
     }
@@ -629,10 +720,9 @@ impl<const W: usize> TxGraph<W> {
         ensures { (state : State) → StandsFor self.now state
             → finmap.get state.plain.table id ≡ option_map (λ rate. record { fee = rate.fee; size = rate.size }) result }
     {
-        if let Some(cluster) = self.levels.find(Level::Main, id) {
-            return Some(cluster.rate(id));
+        if let Some(rate) = self.levels.rate(Level::Main, id) {
+            return Some(rate);
         }
-        let cluster = self.levels.find(Level::Top, id)?;
-        Some(cluster.rate(id))
+        self.levels.rate(Level::Top, id)
     }
 }

@@ -1,14 +1,13 @@
 //! Transactions that leave main: a mined set, and the last chunk.
-ghost use Rattle.std.specs.Prelude.{◌≡◌, ◌≢◌, [], ◌⊎◌, IfErr, MatchResult};
+ghost use Rattle.std.specs.Prelude.{◌≡◌, ◌≢◌, [], IfErr, MatchResult};
 ghost use Rattle.graphs.specs.Certificates.{Part};
-ghost use Rattle.graph_model.specs.declared.names.Refusal.TheVariants.{Memory, Empty};
+ghost use Rattle.graph_model.specs.declared.names.Refusal.TheVariants.{Memory};
 ghost use Rattle.graph_model.specs.Changes.{IsLast};
 ghost use Rattle.graph_model.specs.Commands.{Mine, Evict};
 ghost use Rattle.graph_model.specs.Replies.{change_reply, evicted_reply};
 ghost use Rattle.levels.specs.Lefts.{DropsWithin};
-ghost use Rattle.levels.specs.Levels.{IsBest};
 ghost use Rattle.levels.specs.Stays.{AllStay};
-ghost use Rattle.tx_graph.specs.Dropped.{IsPicked};
+ghost use Rattle.tx_graph.specs.Dropped.{IsLastOf, LastFails};
 ghost use Rattle.tx_graph.specs.Kept.{MakesStep};
 
 use crate::graph::TxGraph;
@@ -23,7 +22,8 @@ impl<const W: usize> TxGraph<W> {
     /// have among them. The list isn't empty.
     ///
     /// The solver takes at most the sum of 2·(n+2)^5 steps over the clusters of n transactions that are left of the listed
-    /// transactions' clusters, each cluster once. It takes none where the call is refused for another reason than memory.
+    /// transactions' clusters and are within the limits, each cluster once. It takes none where the call is refused for another
+    /// reason than memory.
     ///
     /// # Errors
     ///
@@ -40,7 +40,7 @@ impl<const W: usize> TxGraph<W> {
         ensures stays { AllStay self.old.levels self.new.levels }
         ensures additions { self.new.levels.issued ≡ self.old.levels.issued }
         ensures refused { IfErr result (λ why. why ≢ Memory → steps.new ≡ steps.old) }
-        ensures steps { DropsWithin ids.now self.old.levels.main.graph steps.old steps.new }
+        ensures steps { DropsWithin self.old.levels.limits ids.now self.old.levels.main.graph steps.old steps.new }
     {
         if self.levels.is_staged() {
             return Err(Refusal::Staging);
@@ -67,6 +67,7 @@ impl<const W: usize> TxGraph<W> {
     ///
     /// - [`Refusal::Staging`]: a staging is open.
     /// - [`Refusal::Empty`]: main has no transaction.
+    /// - [`Refusal::Oversized`]: main is oversized.
     /// - [`Refusal::Memory`]: there is no memory.
     pub fn drop_last<L: Ledger>(&mut self, steps: &mut Steps<L>) -> Result<Picked, Refusal>
         ensures step { MakesStep self.old self.new Evict (evicted_reply result) }
@@ -74,7 +75,7 @@ impl<const W: usize> TxGraph<W> {
         ensures additions { self.new.levels.issued ≡ self.old.levels.issued }
         ensures refused { IfErr result (λ why. why ≢ Memory → steps.new ≡ steps.old) }
         ensures steps { (part : Part) → IsLast self.old.levels.main.parts part
-            → DropsWithin part.ids self.old.levels.main.graph steps.old steps.new }
+            → DropsWithin self.old.levels.limits part.ids self.old.levels.main.graph steps.old steps.new }
     {
         if self.levels.is_staged() {
             return Err(Refusal::Staging);
@@ -92,13 +93,16 @@ impl<const W: usize> TxGraph<W> {
     }
 }
 
-/// The last part of main's order, with its names in a list of their own. Refuses where main is empty.
+/// The last part of main's order, with its names in a list of their own. Refuses where main is oversized, and so isn't empty, and
+/// where it is empty.
 fn last_part<const W: usize>(alloc: Global, levels: &Levels<W>) -> Result<Picked, Refusal>
-    ensures row { MatchResult result (λ picked. (part : Part) × IsLast levels.now.main.parts part × IsPicked part picked)
-        (λ why. ((why ≡ Memory) × ((part : Part) × IsLast levels.now.main.parts part))
-        ⊎ ((why ≡ Empty) × (levels.now.main.parts ≡ []))) }
-    ensures best { IsBest levels.now.main }
+    ensures { MatchResult result
+        (λ picked. (part : Part) × IsLastOf levels.now part picked)
+        (λ why. LastFails levels.now why) }
 {
+    if levels.oversized(Level::Main) {
+        return Err(Refusal::Oversized);
+    }
     let Some(shown) = levels.parts(Level::Main).next_back() else {
         return Err(Refusal::Empty);
     };

@@ -2,6 +2,7 @@ use Rattle.std.proofs.Common.{ℕ, arith, ◌≤◌, ◌<◌, sym, ◌∙◌, su
 use Rattle.std.proofs.lemmas.Int.{to_z-of_z}
 use Rattle.std.specs.Int.{w64}
 use Rattle.fee_rate.specs.Limits.{IsFee}
+use Rattle.graph_model.specs.declared.names.Limits.{Limits}
 use Rattle.graph_model.specs.declared.names.Refusal.TheVariants.{Full}
 use Rattle.tx_graph.proofs.Calls.{last_row}
 use Rattle.tx_graph.proofs.Counting.{one_count}
@@ -26,7 +27,7 @@ returns-then-size-limits g c =
               λ out. out (c.is_size.ensures.0 c.if-not-is_size.false),
               inr (
                 λ here. true≢false (sym (c.is_live.ensures.1 here) ∙ c.if-is_live.false),
-                inl (c.if-size-limits.true, refl),
+                inl (subst (λ (l : Limits). l.size < c.args.size) c.limits-limits.ensures.limits c.if-size-limits.true, refl),
               ),
             ),
           );
@@ -35,24 +36,28 @@ returns-then-size-limits g c =
 pub returns-then-live-limits : goal.returns-then-live-limits
 returns-then-live-limits g c =
     let pays = subst IsFee (to_z-of_z w64 c.args.fee c.ranges.fee) (c.is_fee.ensures.0 c.if-not-is_fee.false) in
-    let full : c.args.limits.now.total ≤ c.live.result = c.if-live-limits.true in
+    let set = c.limits-limits.ensures.limits in
+    let full = subst (λ (l : Limits). l.total ≤ c.live.result) set c.if-live-limits.true in
+    let fits = subst (λ (l : Limits). c.args.size ≤ l.size) set c.if-size-limits.false in
     record {
       row = λ live counts.
-          last_row c.args.limits.now c.args.levels.now live c.args.id c.args.fee c.args.size (Some Full) pays
-          (c.is_size.ensures.0 c.if-not-is_size.false) (λ here. true≢false (sym (c.is_live.ensures.1 here) ∙ c.if-is_live.false)) c.if-size-limits.false
-          (inl (subst (λ n. c.args.limits.now.total ≤ n) (one_count c.args.levels.now c.live.result live c.live.ensures.count counts) full, refl));
+          last_row c.args.levels.now live c.args.id c.args.fee c.args.size (Some Full) pays
+          (c.is_size.ensures.0 c.if-not-is_size.false) (λ here. true≢false (sym (c.is_live.ensures.1 here) ∙ c.if-is_live.false)) fits
+          (inl (subst (λ n. c.args.levels.now.limits.total ≤ n) (one_count c.args.levels.now c.live.result live c.live.ensures.count counts) full, refl));
     }
 
 pub returns : goal.returns
 returns g c =
     let pays = subst IsFee (to_z-of_z w64 c.args.fee c.ranges.fee) (c.is_fee.ensures.0 c.if-not-is_fee.false) in
-    let room : c.live.result < c.args.limits.now.total = c.if-live-limits.false in
+    let set = c.limits-limits.ensures.limits in
+    let room = subst (λ (l : Limits). c.live.result < l.total) set c.if-live-limits.false in
+    let fits = subst (λ (l : Limits). c.args.size ≤ l.size) set c.if-size-limits.false in
     record {
       row = λ live counts.
-          let left = subst (λ n. n < c.args.limits.now.total) (one_count c.args.levels.now c.live.result live c.live.ensures.count counts) room in
-          last_row c.args.limits.now c.args.levels.now live c.args.id c.args.fee c.args.size None pays
-          (c.is_size.ensures.0 c.if-not-is_size.false) (λ here. true≢false (sym (c.is_live.ensures.1 here) ∙ c.if-is_live.false)) c.if-size-limits.false
-          (inr (no_room c.args.limits.now.total live left, refl));
+          let left = subst (λ n. n < c.args.levels.now.limits.total) (one_count c.args.levels.now c.live.result live c.live.ensures.count counts) room in
+          last_row c.args.levels.now live c.args.id c.args.fee c.args.size None pays
+          (c.is_size.ensures.0 c.if-not-is_size.false) (λ here. true≢false (sym (c.is_live.ensures.1 here) ∙ c.if-is_live.false)) fits
+          (inr (no_room c.args.levels.now.limits.total live left, refl));
     }
   where
     no_room : (total live : ℕ) → live < total → total ≤ live → ⊥
@@ -60,6 +65,9 @@ returns g c =
 
 pub is_live-requires : goal.is_live-requires
 is_live-requires g c = assumption
+
+pub limits-limits-requires : goal.limits-limits-requires
+limits-limits-requires g c = assumption
 
 pub live-requires : goal.live-requires
 live-requires g c = assumption

@@ -12,14 +12,15 @@ use Rattle.block_builder.proofs.Drafting.{makes_block, steps_filled, steps_unfil
 use Rattle.block_builder.proofs.builder.BlockBuilder+Stored+W+W.fill.Goals as goal
 
 pub numbered-parts-requires : goal.numbered-parts-requires
-numbered-parts-requires g c = (c.self.invariant, assumption)
+numbered-parts-requires g c = (c.self.invariant.0, (assumption, c.self.invariant.1))
 
 pub least-requires : goal.least-requires
-least-requires g c = c.self.invariant
+least-requires g c = c.self.invariant.0
 
 pub fill-requires-clause-least : goal.fill-requires-clause-least
 fill-requires-clause-least g c =
-    walk_bounded c.least.result c.self.inside.graph.now.levels.main.parts c.numbered-parts.result c.numbered-parts.ensures.parts c.least.ensures.parts
+    walk_bounded c.least.result c.self.inside.graph.now.levels.main.parts c.numbered-parts.result c.numbered-parts.ensures.parts
+    (c.least.ensures.parts c.self.invariant.1)
 
 pub returns-in_err-fill-clause-step : goal.returns-in_err-fill-clause-step
 returns-in_err-fill-clause-step g c =

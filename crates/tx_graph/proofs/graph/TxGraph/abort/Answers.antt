@@ -12,7 +12,7 @@ use Rattle.tx_graph.proofs.graph.TxGraph.abort.Goals as goal
 
 pub returns-in_err-needs_staging-clause-step : goal.returns-in_err-needs_staging-clause-step
 returns-in_err-needs_staging-clause-step g c =
-    let kept = kept_of (64 * g.row.W) c.self.inside.limits c.self.inside.begun c.self.inside.levels in
+    let kept = kept_of (64 * g.row.W) c.self.inside.begun c.self.inside.levels in
     subst (λ r. MakesStep c.args.self.now c.args.self.now Abort (change_reply r))
     (sym (error_is c.from_residual.result _ c.from_residual.ensures.1 ∙ ap Err c.in_err-needs_staging.ensures.0))
     (both_views kept c.args.self.now Abort (Refused NoStaging) c.self.view_is
@@ -20,17 +20,17 @@ returns-in_err-needs_staging-clause-step g c =
 
 pub invariant_of-self : goal.invariant_of-self
 invariant_of-self g c =
-    sound_after (kept_of (64 * g.row.W) c.self.inside.limits c.self.inside.begun c.self.inside.levels)
-    (kept_of (64 * g.row.W) c.self.inside.limits true c.abort.new.self) Abort Done c.self.invariant c.self.invariant.in_range
+    sound_after (kept_of (64 * g.row.W) c.self.inside.begun c.self.inside.levels)
+    (kept_of (64 * g.row.W) true c.abort.new.self) Abort Done c.self.invariant
     (picks_aborted c.self.inside.levels c.abort.new.self c.abort.ensures c.self.invariant.picked)
-    (abort_step (64 * g.row.W) c.self.inside.limits c.self.inside.begun c.self.inside.levels c.abort.new.self c.self.invariant.picked
+    (abort_step (64 * g.row.W) c.self.inside.begun c.self.inside.levels c.abort.new.self c.self.invariant.picked
     c.in_ok-needs_staging.ensures c.abort.ensures)
 
 pub returns-clause-step : goal.returns-clause-step
 returns-clause-step g c =
-    from_view (kept_of (64 * g.row.W) c.self.inside.limits c.self.inside.begun c.self.inside.levels)
-    c.args.self.now (kept_of (64 * g.row.W) c.self.inside.limits true c.abort.new.self) Abort Done c.self.view_is
-    (abort_step (64 * g.row.W) c.self.inside.limits c.self.inside.begun c.self.inside.levels c.abort.new.self c.self.invariant.picked
+    from_view (kept_of (64 * g.row.W) c.self.inside.begun c.self.inside.levels)
+    c.args.self.now (kept_of (64 * g.row.W) true c.abort.new.self) Abort Done c.self.view_is
+    (abort_step (64 * g.row.W) c.self.inside.begun c.self.inside.levels c.abort.new.self c.self.invariant.picked
     c.in_ok-needs_staging.ensures c.abort.ensures)
 
 pub needs_staging-requires : goal.needs_staging-requires

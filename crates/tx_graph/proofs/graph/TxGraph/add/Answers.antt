@@ -5,7 +5,7 @@ use Rattle.fee_rate.specs.Limits.{IsRate}
 use Rattle.graph_model.specs.declared.names.Refusal.TheVariants.{Memory}
 use Rattle.graph_model.specs.Commands.{Add}
 use Rattle.graph_model.specs.Replies.{Done, Refused}
-use Rattle.tx_graph.proofs.Calls.{kept_of, same_levels, from_view, both_views, sound_after, sound_still, when_ok, when_err, AddRowIs, add_met, may_add, add_step, IsAddedTo}
+use Rattle.tx_graph.proofs.Calls.{kept_of, same_levels, from_view, both_views, sound_after, sound_still, when_ok, when_err, in_range, AddRowIs, add_met, may_add, add_step, IsAddedTo}
 use Rattle.tx_graph.proofs.Counting.{live_listed, counted}
 use Rattle.tx_graph.proofs.Standing.{steps_refused, steps_without_memory}
 use Rattle.tx_graph.proofs.Rooms.{levels_fit}
@@ -17,7 +17,7 @@ use Rattle.tx_graph.proofs.graph.TxGraph.add.Goals as goal
 
 pub returns-in-Some-clause-step : goal.returns-in-Some-clause-step
 returns-in-Some-clause-step g c =
-    let kept = kept_of (64 * g.row.W) c.self.inside.limits c.self.inside.begun c.self.inside.levels in
+    let kept = kept_of (64 * g.row.W) c.self.inside.begun c.self.inside.levels in
     both_views kept c.args.self.now (Add c.args.id c.args.fee c.args.size) (Refused c.in-Some.why) c.self.view_is
     (steps_refused kept (Add c.args.id c.args.fee c.args.size) c.in-Some.why
     (add_met kept c.args.id c.args.fee c.args.size (Some c.in-Some.why)
@@ -25,19 +25,20 @@ returns-in-Some-clause-step g c =
 
 pub add-requires : goal.add-requires
 add-requires g c =
-    let kept = kept_of (64 * g.row.W) c.self.inside.limits c.self.inside.begun c.self.inside.levels in
+    let kept = kept_of (64 * g.row.W) c.self.inside.begun c.self.inside.levels in
     let fee = to_z-of_z w64 c.args.fee c.ranges.fee in
     let names = live_listed c.self.inside.levels in
     let row = subst (λ fee. AddRowIs kept c.args.id fee c.args.size None) fee c.in_default.ensures.row in
-    let may = may_add c.self.inside.limits c.self.inside.levels (length names.0) c.args.id c.args.fee c.args.size
+    let may = may_add c.self.inside.levels (length names.0) c.args.id c.args.fee c.args.size
     (row (length names.0) (counted c.self.inside.levels names.0 names.1)) in
-    let room : length names.0 < c.self.inside.limits.total = may.room in
-    let total : c.self.inside.limits.total ≤ 1048576 = c.self.invariant.in_range.total_high in (
+    let room : length names.0 < c.self.inside.levels.limits.total = may.room in
+    let total : c.self.inside.levels.limits.total ≤ 1048576 = (in_range kept c.self.invariant).total_high in (
       levels_fit g.row.W assumption,
       record {
         absent = may.absent;
         in_range = subst (λ fee. IsRate (record { fee = fee; size = c.args.size })) (sym fee)
             (record { fee = may.pays; some = may.measures.0; size = may.measures.1 });
+        fits = may.fits;
         few = (names.0, names.1, omega arith);
         issued = subst (λ (k : Kept). k.levels.issued < 2 ^ 64 - 1) (sym c.self.view_is) c.requires;
       },
@@ -45,13 +46,13 @@ add-requires g c =
 
 pub invariant_of-self : goal.invariant_of-self
 invariant_of-self g c =
-    sound_still (64 * g.row.W) c.self.inside.limits c.self.inside.begun c.self.inside.levels c.add.new.self
+    sound_still (64 * g.row.W) c.self.inside.begun c.self.inside.levels c.add.new.self
     (when_err c.add.result (sym c.is_err.ensures.value ∙ c.if-is_err.true) c.add.ensures.err) c.self.invariant
 
 pub returns-then-is_err-clause-step : goal.returns-then-is_err-clause-step
 returns-then-is_err-clause-step g c =
-    let kept = kept_of (64 * g.row.W) c.self.inside.limits c.self.inside.begun c.self.inside.levels in
-    same_levels (64 * g.row.W) c.self.inside.limits c.self.inside.begun c.self.inside.levels c.add.new.self c.args.self.now
+    let kept = kept_of (64 * g.row.W) c.self.inside.begun c.self.inside.levels in
+    same_levels (64 * g.row.W) c.self.inside.begun c.self.inside.levels c.add.new.self c.args.self.now
     (Add c.args.id c.args.fee c.args.size) (Refused Memory)
     (when_err c.add.result (sym c.is_err.ensures.value ∙ c.if-is_err.true) c.add.ensures.err) c.self.view_is
     (steps_without_memory kept (Add c.args.id c.args.fee c.args.size) tt
@@ -60,11 +61,11 @@ returns-then-is_err-clause-step g c =
 
 pub invariant_of-self-2 : goal.invariant_of-self-2
 invariant_of-self-2 g c =
-    let kept = kept_of (64 * g.row.W) c.self.inside.limits c.self.inside.begun c.self.inside.levels in
+    let kept = kept_of (64 * g.row.W) c.self.inside.begun c.self.inside.levels in
     let done = sym c.is_err.ensures.value ∙ c.if-is_err.false in
-    sound_after kept (kept_of (64 * g.row.W) c.self.inside.limits true c.add.new.self)
-    (Add c.args.id c.args.fee c.args.size) Done c.self.invariant c.self.invariant.in_range c.add.ensures.kept.0
-    (add_step (64 * g.row.W) c.self.inside.limits c.self.inside.begun c.self.inside.levels c.add.new.self c.add.ensures.kept.0
+    sound_after kept (kept_of (64 * g.row.W) true c.add.new.self)
+    (Add c.args.id c.args.fee c.args.size) Done c.self.invariant c.add.ensures.kept.0
+    (add_step (64 * g.row.W) c.self.inside.begun c.self.inside.levels c.add.new.self c.add.ensures.kept.0
     c.args.id c.args.fee c.args.size c.ranges.id.fits
     (subst (λ fee. AddRowIs kept c.args.id fee c.args.size None) (to_z-of_z w64 c.args.fee c.ranges.fee) c.in_default.ensures.row)
     (subst (λ fee. IsAddedTo c.args.id fee c.args.size c.self.inside.levels c.add.new.self) (to_z-of_z w64 c.args.fee c.ranges.fee)
@@ -72,10 +73,10 @@ invariant_of-self-2 g c =
 
 pub returns-clause-step : goal.returns-clause-step
 returns-clause-step g c =
-    let kept = kept_of (64 * g.row.W) c.self.inside.limits c.self.inside.begun c.self.inside.levels in
+    let kept = kept_of (64 * g.row.W) c.self.inside.begun c.self.inside.levels in
     let done = sym c.is_err.ensures.value ∙ c.if-is_err.false in
-    from_view kept c.args.self.now (kept_of (64 * g.row.W) c.self.inside.limits true c.add.new.self) (Add c.args.id c.args.fee c.args.size) Done c.self.view_is
-    (add_step (64 * g.row.W) c.self.inside.limits c.self.inside.begun c.self.inside.levels c.add.new.self c.add.ensures.kept.0
+    from_view kept c.args.self.now (kept_of (64 * g.row.W) true c.add.new.self) (Add c.args.id c.args.fee c.args.size) Done c.self.view_is
+    (add_step (64 * g.row.W) c.self.inside.begun c.self.inside.levels c.add.new.self c.add.ensures.kept.0
     c.args.id c.args.fee c.args.size c.ranges.id.fits
     (subst (λ fee. AddRowIs kept c.args.id fee c.args.size None) (to_z-of_z w64 c.args.fee c.ranges.fee) c.in_default.ensures.row)
     (subst (λ fee. IsAddedTo c.args.id fee c.args.size c.self.inside.levels c.add.new.self) (to_z-of_z w64 c.args.fee c.ranges.fee)

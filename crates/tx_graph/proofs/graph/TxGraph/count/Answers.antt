@@ -8,7 +8,7 @@ use Rattle.tx_graph.proofs.graph.TxGraph.count.Goals as goal
 
 pub returns : goal.returns
 returns g c =
-    let kept = kept_of (64 * g.row.W) c.self.inside.limits c.self.inside.begun c.self.inside.levels in
+    let kept = kept_of (64 * g.row.W) c.self.inside.begun c.self.inside.levels in
     both_views kept c.args.self.now (Count c.args.level) (Number c.count.result) c.self.view_is
     (steps_counted kept c.args.level c.count.result c.self.invariant.picked c.count.ensures)
 

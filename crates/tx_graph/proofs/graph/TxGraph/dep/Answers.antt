@@ -16,14 +16,14 @@ use Rattle.tx_graph.proofs.graph.TxGraph.dep.Goals as goal
 pub returns-in_err-dep-clause-step : goal.returns-in_err-dep-clause-step
 returns-in_err-dep-clause-step g c =
     let why = c.in_err-dep.field-0.0 in
-    subst (λ r. MakesStep c.args.self.now (kept_of (64 * g.row.W) c.self.inside.limits c.self.inside.begun c.dep.new.self)
+    subst (λ r. MakesStep c.args.self.now (kept_of (64 * g.row.W) c.self.inside.begun c.dep.new.self)
     (Dep c.args.parent c.args.child) (change_reply r))
     (sym (error_is c.from_residual.result why c.from_residual.ensures.1))
-    (same_levels (64 * g.row.W) c.self.inside.limits c.self.inside.begun c.self.inside.levels c.dep.new.self c.args.self.now
+    (same_levels (64 * g.row.W) c.self.inside.begun c.self.inside.levels c.dep.new.self c.args.self.now
     (Dep c.args.parent c.args.child) (Refused why)
     c.in_err-dep.ensures.same.0.0 c.self.view_is
     (dep_refused
-    (kept_of (64 * g.row.W) c.self.inside.limits c.self.inside.begun c.self.inside.levels) c.args.parent c.args.child why c.in_err-dep.ensures.row))
+    (kept_of (64 * g.row.W) c.self.inside.begun c.self.inside.levels) c.args.parent c.args.child why c.in_err-dep.ensures.row))
 
 pub returns-in_err-dep-clause-steps : goal.returns-in_err-dep-clause-steps
 returns-in_err-dep-clause-steps g c =
@@ -31,18 +31,18 @@ returns-in_err-dep-clause-steps g c =
 
 pub invariant_of-self-2 : goal.invariant_of-self-2
 invariant_of-self-2 g c =
-    sound_after (kept_of (64 * g.row.W) c.self.inside.limits c.self.inside.begun c.self.inside.levels)
-    (kept_of (64 * g.row.W) c.self.inside.limits true c.dep.new.self)
-    (Dep c.args.parent c.args.child) Done c.self.invariant c.self.invariant.in_range c.dep.ensures.kept.0
-    (dep_step (64 * g.row.W) c.self.inside.limits c.self.inside.begun c.self.inside.levels c.dep.new.self c.dep.ensures.kept.0 c.self.invariant
+    sound_after (kept_of (64 * g.row.W) c.self.inside.begun c.self.inside.levels)
+    (kept_of (64 * g.row.W) true c.dep.new.self)
+    (Dep c.args.parent c.args.child) Done c.self.invariant c.dep.ensures.kept.0
+    (dep_step (64 * g.row.W) c.self.inside.begun c.self.inside.levels c.dep.new.self c.dep.ensures.kept.0 c.self.invariant
     c.args.parent c.args.child c.in_ok-dep.ensures.row c.in_ok-dep.ensures.linked (λ there. (c.dep.ensures.same.1 there).0))
 
 pub returns-clause-step : goal.returns-clause-step
 returns-clause-step g c =
-    from_view (kept_of (64 * g.row.W) c.self.inside.limits c.self.inside.begun c.self.inside.levels) c.args.self.now
-    (kept_of (64 * g.row.W) c.self.inside.limits true c.dep.new.self)
+    from_view (kept_of (64 * g.row.W) c.self.inside.begun c.self.inside.levels) c.args.self.now
+    (kept_of (64 * g.row.W) true c.dep.new.self)
     (Dep c.args.parent c.args.child) Done c.self.view_is
-    (dep_step (64 * g.row.W) c.self.inside.limits c.self.inside.begun c.self.inside.levels c.dep.new.self c.dep.ensures.kept.0 c.self.invariant
+    (dep_step (64 * g.row.W) c.self.inside.begun c.self.inside.levels c.dep.new.self c.dep.ensures.kept.0 c.self.invariant
     c.args.parent c.args.child c.in_ok-dep.ensures.row c.in_ok-dep.ensures.linked (λ there. (c.dep.ensures.same.1 there).0))
 
 pub returns-clause-steps : goal.returns-clause-steps
@@ -53,7 +53,7 @@ pub returns-in_err-dep-clause-additions : goal.returns-in_err-dep-clause-additio
 returns-in_err-dep-clause-additions g c = ap (λ (l : Levels). l.issued) c.in_err-dep.ensures.same.0.0 ∙ ap (λ (k : Kept). k.levels.issued) c.self.view_is
 
 pub dep-requires : goal.dep-requires
-dep-requires g c = (levels_fit g.row.W assumption, c.self.invariant.in_range.count_high)
+dep-requires g c = levels_fit g.row.W assumption
 
 pub returns-in_err-dep-clause-stays : goal.returns-in_err-dep-clause-stays
 returns-in_err-dep-clause-stays g c = subst (λ (k : Kept). AllStay k.levels c.dep.new.self) c.self.view_is c.dep.ensures.kept.1

@@ -1,16 +1,13 @@
 use Rattle.std.proofs.Common.{◌*◌, ◌≡◌, ℕ, List, true, sym, ◌∙◌, subst, refl, ap}
 use Rattle.std.specs.Prelude.{Contains}
 use Rattle.lists.specs.Distinct.{AreDistinct}
-use Rattle.graphs.specs.declared.names.Level.TheVariants.{Top}
 use Rattle.graphs.specs.Closures.{is_member}
 use Rattle.graphs.specs.Certificates.{Part}
 use Rattle.graph_model.specs.declared.names.Refusal.TheVariants.{Memory, Staging}
 use Rattle.graph_model.specs.Changes.{IsLast}
 use Rattle.graph_model.specs.Commands.{Evict}
 use Rattle.graph_model.specs.Replies.{Reply, Evicted, Refused, evicted_reply}
-use Rattle.graph_model.proofs.PickReplies.{last_same}
-use Rattle.cluster.specs.Steps.{most_steps_of}
-use Rattle.levels.specs.Levels.{OneLevel, Levels, ChangesTop, LosesNames, level_at}
+use Rattle.levels.specs.Levels.{OneLevel, Levels, ChangesTop, LosesNames}
 use Rattle.levels.specs.Lefts.{DropsWithin}
 use Rattle.levels.specs.Stays.{AllStay}
 use Rattle.tx_graph.specs.Kept.{Kept, MakesStep}
@@ -29,7 +26,7 @@ last_part-requires g c = levels_fit g.row.W assumption
 
 pub returns-then-is_staged-clause-step : goal.returns-then-is_staged-clause-step
 returns-then-is_staged-clause-step g c =
-    let kept = kept_of (64 * g.row.W) c.self.inside.limits c.self.inside.begun c.self.inside.levels in
+    let kept = kept_of (64 * g.row.W) c.self.inside.begun c.self.inside.levels in
     both_views kept c.args.self.now Evict (Refused Staging) c.self.view_is
     (steps_refused kept Evict Staging (evict_staged kept (sym c.is_staged.ensures ∙ c.if-is_staged.true)))
 
@@ -44,15 +41,15 @@ returns-then-is_staged-clause-refused g c lacks = refl
 
 pub returns-then-is_staged-clause-steps : goal.returns-then-is_staged-clause-steps
 returns-then-is_staged-clause-steps g c part last =
-    record { grew = not_larger c.args.steps.now; few = λ lists are. within_one c.args.steps.now (most_steps_of lists) }
+    record { grew = not_larger c.args.steps.now; few = λ lists are. within_one c.args.steps.now _ }
 
 pub returns-in_err-picked-clause-step : goal.returns-in_err-picked-clause-step
 returns-in_err-picked-clause-step g c =
-    let kept = kept_of (64 * g.row.W) c.self.inside.limits c.self.inside.begun c.self.inside.levels in
+    let kept = kept_of (64 * g.row.W) c.self.inside.begun c.self.inside.levels in
     let why = c.in_err-picked.field-0.0 in
     subst (λ r. MakesStep c.args.self.now c.args.self.now Evict (evicted_reply r)) (sym (error_is c.from_residual.result why c.from_residual.ensures.1))
     (both_views kept c.args.self.now Evict (Refused why) c.self.view_is
-    (last_refused kept c.self.invariant (sym c.is_staged.ensures ∙ c.if-is_staged.false) why c.in_err-picked.ensures.row))
+    (last_refused kept c.self.invariant (sym c.is_staged.ensures ∙ c.if-is_staged.false) why c.in_err-picked.ensures))
 
 pub returns-in_err-picked-clause-stays : goal.returns-in_err-picked-clause-stays
 returns-in_err-picked-clause-stays g c = all_stay c.args.self.now.levels
@@ -62,14 +59,14 @@ returns-in_err-picked-clause-additions g c = refl
 
 pub returns-in_err-picked-clause-steps : goal.returns-in_err-picked-clause-steps
 returns-in_err-picked-clause-steps g c part last =
-    record { grew = not_larger c.args.steps.now; few = λ lists are. within_one c.args.steps.now (most_steps_of lists) }
+    record { grew = not_larger c.args.steps.now; few = λ lists are. within_one c.args.steps.now _ }
 
 pub drop_names-requires : goal.drop_names-requires
 drop_names-requires g c =
-    let kept = kept_of (64 * g.row.W) c.self.inside.limits c.self.inside.begun c.self.inside.levels in
-    let row = c.in_ok-picked.ensures.row in
-    let in_main = last_in kept c.self.invariant row.0 row.1 in
-    let ids : c.as_slice.result.now ≡ row.0.ids = c.as_slice.ensures ∙ row.2.ids in (
+    let kept = kept_of (64 * g.row.W) c.self.inside.begun c.self.inside.levels in
+    let row = c.in_ok-picked.ensures in
+    let in_main = last_in kept c.self.invariant row.1.best.pick row.0 row.1.last in
+    let ids : c.as_slice.result.now ≡ row.0.ids = c.as_slice.ensures ∙ row.1.told.ids in (
       levels_fit g.row.W assumption,
       (
         (λ id here.
@@ -81,18 +78,18 @@ drop_names-requires g c =
 
 pub invariant_of-self : goal.invariant_of-self
 invariant_of-self g c =
-    sound_still (64 * g.row.W) c.self.inside.limits c.self.inside.begun c.self.inside.levels c.drop_names.new.self
+    sound_still (64 * g.row.W) c.self.inside.begun c.self.inside.levels c.drop_names.new.self
     (when_err c.drop_names.result (sym c.is_err.ensures.value ∙ c.if-is_err.true) c.drop_names.ensures.err) c.self.invariant
 
 pub returns-then-is_err-clause-step : goal.returns-then-is_err-clause-step
 returns-then-is_err-clause-step g c =
-    let kept = kept_of (64 * g.row.W) c.self.inside.limits c.self.inside.begun c.self.inside.levels in
-    let row = c.in_ok-picked.ensures.row in
-    let in_main = last_in kept c.self.invariant row.0 row.1 in
-    same_levels (64 * g.row.W) c.self.inside.limits c.self.inside.begun c.self.inside.levels c.drop_names.new.self c.args.self.now Evict (Refused Memory)
+    let kept = kept_of (64 * g.row.W) c.self.inside.begun c.self.inside.levels in
+    let row = c.in_ok-picked.ensures in
+    let in_main = last_in kept c.self.invariant row.1.best.pick row.0 row.1.last in
+    same_levels (64 * g.row.W) c.self.inside.begun c.self.inside.levels c.drop_names.new.self c.args.self.now Evict (Refused Memory)
     (when_err c.drop_names.result (sym c.is_err.ensures.value ∙ c.if-is_err.true) c.drop_names.ensures.err) c.self.view_is
     (steps_without_memory kept Evict tt
-    (evict_row kept in_main.some.0 (sym c.is_staged.ensures ∙ c.if-is_staged.false) (in_main.live in_main.some.0 in_main.some.1)))
+    (evict_row kept in_main.some.0 row.1.within (sym c.is_staged.ensures ∙ c.if-is_staged.false) (in_main.live in_main.some.0 in_main.some.1)))
 
 pub returns-then-is_err-clause-stays : goal.returns-then-is_err-clause-stays
 returns-then-is_err-clause-stays g c = subst (λ (k : Kept). AllStay k.levels c.drop_names.new.self) c.self.view_is c.drop_names.ensures.kept.1
@@ -107,37 +104,37 @@ returns-then-is_err-clause-refused g c lacks = absurd (lacks refl)
 
 pub returns-then-is_err-clause-steps : goal.returns-then-is_err-clause-steps
 returns-then-is_err-clause-steps g c =
-    let row = c.in_ok-picked.ensures.row in
+    let row = c.in_ok-picked.ensures in
     subst (λ (k : Kept). (part : Part) → IsLast k.levels.main.parts part
-    → DropsWithin part.ids k.levels.main.graph c.args.steps.now c.drop_names.new.steps) c.self.view_is
-    (dropped_last c.self.inside.levels c.args.steps.now c.drop_names.new.steps c.as_slice.result.now row.0 row.1
-    (sym c.is_staged.ensures ∙ c.if-is_staged.false) (c.as_slice.ensures ∙ row.2.ids) c.drop_names.ensures.steps)
+    → DropsWithin k.levels.limits part.ids k.levels.main.graph c.args.steps.now c.drop_names.new.steps) c.self.view_is
+    (dropped_last c.self.inside.levels c.args.steps.now c.drop_names.new.steps c.as_slice.result.now row.0 row.1.last
+    (sym c.is_staged.ensures ∙ c.if-is_staged.false) (c.as_slice.ensures ∙ row.1.told.ids) c.drop_names.ensures.steps)
 
 pub invariant_of-self-2 : goal.invariant_of-self-2
 invariant_of-self-2 g c =
-    let kept = kept_of (64 * g.row.W) c.self.inside.limits c.self.inside.begun c.self.inside.levels in
-    let row = c.in_ok-picked.ensures.row in
-    let in_main = last_in kept c.self.invariant row.0 row.1 in
-    sound_after kept (kept_of (64 * g.row.W) c.self.inside.limits true c.drop_names.new.self) Evict (Evicted row.0.rate row.0.ids)
-    c.self.invariant c.self.invariant.in_range c.drop_names.ensures.kept.0
-    (evict_step (64 * g.row.W) c.self.inside.limits c.self.inside.begun c.self.inside.levels c.drop_names.new.self c.drop_names.ensures.kept.0
-    (sym c.is_staged.ensures ∙ c.if-is_staged.false) row.0 c.last_part.ensures.best row.1 in_main.some.0 in_main.some.1
+    let kept = kept_of (64 * g.row.W) c.self.inside.begun c.self.inside.levels in
+    let row = c.in_ok-picked.ensures in
+    let in_main = last_in kept c.self.invariant row.1.best.pick row.0 row.1.last in
+    sound_after kept (kept_of (64 * g.row.W) true c.drop_names.new.self) Evict (Evicted row.0.rate row.0.ids)
+    c.self.invariant c.drop_names.ensures.kept.0
+    (evict_step (64 * g.row.W) c.self.inside.begun c.self.inside.levels c.drop_names.new.self c.drop_names.ensures.kept.0
+    (sym c.is_staged.ensures ∙ c.if-is_staged.false) row.0 row.1.within row.1.best row.1.last in_main.some.0 in_main.some.1
     (in_main.live in_main.some.0 in_main.some.1)
-    (subst (λ (ns : List ℕ). ChangesTop (λ a b. LosesNames a b ns) c.self.inside.levels c.drop_names.new.self) (c.as_slice.ensures ∙ row.2.ids)
+    (subst (λ (ns : List ℕ). ChangesTop (λ a b. LosesNames a b ns) c.self.inside.levels c.drop_names.new.self) (c.as_slice.ensures ∙ row.1.told.ids)
     (when_ok c.drop_names.result (sym c.is_err.ensures.value ∙ c.if-is_err.false) c.drop_names.ensures.dropped)))
 
 pub returns-clause-step : goal.returns-clause-step
 returns-clause-step g c =
-    let kept = kept_of (64 * g.row.W) c.self.inside.limits c.self.inside.begun c.self.inside.levels in
-    let row = c.in_ok-picked.ensures.row in
-    let in_main = last_in kept c.self.invariant row.0 row.1 in
-    let new = kept_of (64 * g.row.W) c.self.inside.limits true c.drop_names.new.self in
-    subst (λ (reply : Reply). MakesStep c.args.self.now new Evict reply) (picked_told row.0 _ row.2)
+    let kept = kept_of (64 * g.row.W) c.self.inside.begun c.self.inside.levels in
+    let row = c.in_ok-picked.ensures in
+    let in_main = last_in kept c.self.invariant row.1.best.pick row.0 row.1.last in
+    let new = kept_of (64 * g.row.W) true c.drop_names.new.self in
+    subst (λ (reply : Reply). MakesStep c.args.self.now new Evict reply) (picked_told row.0 _ row.1.told)
     (from_view kept c.args.self.now new Evict (Evicted row.0.rate row.0.ids) c.self.view_is
-    (evict_step (64 * g.row.W) c.self.inside.limits c.self.inside.begun c.self.inside.levels c.drop_names.new.self c.drop_names.ensures.kept.0
-    (sym c.is_staged.ensures ∙ c.if-is_staged.false) row.0 c.last_part.ensures.best row.1 in_main.some.0 in_main.some.1
+    (evict_step (64 * g.row.W) c.self.inside.begun c.self.inside.levels c.drop_names.new.self c.drop_names.ensures.kept.0
+    (sym c.is_staged.ensures ∙ c.if-is_staged.false) row.0 row.1.within row.1.best row.1.last in_main.some.0 in_main.some.1
     (in_main.live in_main.some.0 in_main.some.1)
-    (subst (λ (ns : List ℕ). ChangesTop (λ a b. LosesNames a b ns) c.self.inside.levels c.drop_names.new.self) (c.as_slice.ensures ∙ row.2.ids)
+    (subst (λ (ns : List ℕ). ChangesTop (λ a b. LosesNames a b ns) c.self.inside.levels c.drop_names.new.self) (c.as_slice.ensures ∙ row.1.told.ids)
     (when_ok c.drop_names.result (sym c.is_err.ensures.value ∙ c.if-is_err.false) c.drop_names.ensures.dropped))))
 
 pub returns-clause-stays : goal.returns-clause-stays
@@ -153,8 +150,8 @@ returns-clause-refused g c = tt
 
 pub returns-clause-steps : goal.returns-clause-steps
 returns-clause-steps g c =
-    let row = c.in_ok-picked.ensures.row in
+    let row = c.in_ok-picked.ensures in
     subst (λ (k : Kept). (part : Part) → IsLast k.levels.main.parts part
-    → DropsWithin part.ids k.levels.main.graph c.args.steps.now c.drop_names.new.steps) c.self.view_is
-    (dropped_last c.self.inside.levels c.args.steps.now c.drop_names.new.steps c.as_slice.result.now row.0 row.1
-    (sym c.is_staged.ensures ∙ c.if-is_staged.false) (c.as_slice.ensures ∙ row.2.ids) c.drop_names.ensures.steps)
+    → DropsWithin k.levels.limits part.ids k.levels.main.graph c.args.steps.now c.drop_names.new.steps) c.self.view_is
+    (dropped_last c.self.inside.levels c.args.steps.now c.drop_names.new.steps c.as_slice.result.now row.0 row.1.last
+    (sym c.is_staged.ensures ∙ c.if-is_staged.false) (c.as_slice.ensures ∙ row.1.told.ids) c.drop_names.ensures.steps)

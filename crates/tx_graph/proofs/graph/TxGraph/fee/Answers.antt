@@ -23,7 +23,7 @@ returns-then-not-is_fee-clause-step g c =
 
 pub returns-then-not-is_live-clause-step : goal.returns-then-not-is_live-clause-step
 returns-then-not-is_live-clause-step g c =
-    let kept = kept_of (64 * g.row.W) c.self.inside.limits c.self.inside.begun c.self.inside.levels in
+    let kept = kept_of (64 * g.row.W) c.self.inside.begun c.self.inside.levels in
     let fine = subst IsFee (to_z-of_z w64 c.args.fee c.ranges.fee) (c.is_fee.ensures.0 c.if-not-is_fee.false) in
     both_views kept c.args.self.now (SetFee c.args.id c.args.fee) (Refused (Unknown c.args.id)) c.self.view_is
     (steps_refused kept (SetFee c.args.id c.args.fee) (Unknown c.args.id)
@@ -31,7 +31,7 @@ returns-then-not-is_live-clause-step g c =
 
 pub set_fee-requires : goal.set_fee-requires
 set_fee-requires g c =
-    let kept = kept_of (64 * g.row.W) c.self.inside.limits c.self.inside.begun c.self.inside.levels in (
+    let kept = kept_of (64 * g.row.W) c.self.inside.begun c.self.inside.levels in (
       levels_fit g.row.W assumption,
       (
         c.is_live.ensures.0 c.if-not-is_live.false,
@@ -41,14 +41,14 @@ set_fee-requires g c =
 
 pub invariant_of-self : goal.invariant_of-self
 invariant_of-self g c =
-    sound_still (64 * g.row.W) c.self.inside.limits c.self.inside.begun c.self.inside.levels c.set_fee.new.self
+    sound_still (64 * g.row.W) c.self.inside.begun c.self.inside.levels c.set_fee.new.self
     (when_err c.set_fee.result (sym c.is_err.ensures.value ∙ c.if-is_err.true) c.set_fee.ensures.err) c.self.invariant
 
 pub returns-then-is_err-clause-step : goal.returns-then-is_err-clause-step
 returns-then-is_err-clause-step g c =
-    let kept = kept_of (64 * g.row.W) c.self.inside.limits c.self.inside.begun c.self.inside.levels in
+    let kept = kept_of (64 * g.row.W) c.self.inside.begun c.self.inside.levels in
     let fine = subst IsFee (to_z-of_z w64 c.args.fee c.ranges.fee) (c.is_fee.ensures.0 c.if-not-is_fee.false) in
-    same_levels (64 * g.row.W) c.self.inside.limits c.self.inside.begun c.self.inside.levels c.set_fee.new.self
+    same_levels (64 * g.row.W) c.self.inside.begun c.self.inside.levels c.set_fee.new.self
     c.args.self.now (SetFee c.args.id c.args.fee) (Refused Memory)
     (when_err c.set_fee.result (sym c.is_err.ensures.value ∙ c.if-is_err.true) c.set_fee.ensures.err) c.self.view_is
     (steps_without_memory kept (SetFee c.args.id c.args.fee) tt
@@ -69,10 +69,10 @@ pub invariant_of-self-2 : goal.invariant_of-self-2
 invariant_of-self-2 g c =
     let fee = to_z-of_z w64 c.args.fee c.ranges.fee in
     let done = sym c.is_err.ensures.value ∙ c.if-is_err.false in
-    sound_after (kept_of (64 * g.row.W) c.self.inside.limits c.self.inside.begun c.self.inside.levels)
-    (kept_of (64 * g.row.W) c.self.inside.limits true c.set_fee.new.self)
-    (SetFee c.args.id c.args.fee) Done c.self.invariant c.self.invariant.in_range c.set_fee.ensures.kept.0
-    (fee_step (64 * g.row.W) c.self.inside.limits c.self.inside.begun c.self.inside.levels c.set_fee.new.self c.set_fee.ensures.kept.0
+    sound_after (kept_of (64 * g.row.W) c.self.inside.begun c.self.inside.levels)
+    (kept_of (64 * g.row.W) true c.set_fee.new.self)
+    (SetFee c.args.id c.args.fee) Done c.self.invariant c.set_fee.ensures.kept.0
+    (fee_step (64 * g.row.W) c.self.inside.begun c.self.inside.levels c.set_fee.new.self c.set_fee.ensures.kept.0
     c.args.id c.args.fee (subst IsFee fee (c.is_fee.ensures.0 c.if-not-is_fee.false)) (c.is_live.ensures.0 c.if-not-is_live.false)
     (subst (λ f. SetsFeeIn c.args.id f c.self.inside.levels c.set_fee.new.self) fee (when_ok c.set_fee.result done c.set_fee.ensures.fee))
     (λ same. (c.set_fee.ensures.still (λ level member. same level member ∙ sym fee)).0))
@@ -81,9 +81,9 @@ pub returns-clause-step : goal.returns-clause-step
 returns-clause-step g c =
     let fee = to_z-of_z w64 c.args.fee c.ranges.fee in
     let done = sym c.is_err.ensures.value ∙ c.if-is_err.false in
-    from_view (kept_of (64 * g.row.W) c.self.inside.limits c.self.inside.begun c.self.inside.levels)
-    c.args.self.now (kept_of (64 * g.row.W) c.self.inside.limits true c.set_fee.new.self) (SetFee c.args.id c.args.fee) Done c.self.view_is
-    (fee_step (64 * g.row.W) c.self.inside.limits c.self.inside.begun c.self.inside.levels c.set_fee.new.self c.set_fee.ensures.kept.0
+    from_view (kept_of (64 * g.row.W) c.self.inside.begun c.self.inside.levels)
+    c.args.self.now (kept_of (64 * g.row.W) true c.set_fee.new.self) (SetFee c.args.id c.args.fee) Done c.self.view_is
+    (fee_step (64 * g.row.W) c.self.inside.begun c.self.inside.levels c.set_fee.new.self c.set_fee.ensures.kept.0
     c.args.id c.args.fee (subst IsFee fee (c.is_fee.ensures.0 c.if-not-is_fee.false)) (c.is_live.ensures.0 c.if-not-is_live.false)
     (subst (λ f. SetsFeeIn c.args.id f c.self.inside.levels c.set_fee.new.self) fee (when_ok c.set_fee.result done c.set_fee.ensures.fee))
     (λ same. (c.set_fee.ensures.still (λ level member. same level member ∙ sym fee)).0))

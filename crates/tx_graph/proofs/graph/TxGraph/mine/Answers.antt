@@ -1,12 +1,10 @@
 use Rattle.std.proofs.Common.{arith, ◌*◌, ◌≡◌, true, sym, ◌∙◌, subst, refl, ap, None, Some}
-use Rattle.std.specs.Prelude.{Contains}
 use Rattle.graphs.specs.declared.names.Level.TheVariants.{Top}
 use Rattle.graphs.specs.Closures.{is_member}
 use Rattle.graph_model.specs.declared.names.Refusal.TheVariants.{Memory, Staging}
 use Rattle.graph_model.specs.Commands.{Mine}
 use Rattle.graph_model.specs.Replies.{Done, Refused}
 use Rattle.lists.proofs.Cases.{none_of}
-use Rattle.cluster.specs.Steps.{most_steps_of}
 use Rattle.levels.specs.Levels.{OneLevel, Levels, ChangesTop, LosesNames, level_at}
 use Rattle.levels.specs.Lefts.{DropsWithin}
 use Rattle.levels.specs.Stays.{AllStay}
@@ -23,7 +21,7 @@ is_staged-requires g c = levels_fit g.row.W assumption
 
 pub returns-then-is_staged-clause-step : goal.returns-then-is_staged-clause-step
 returns-then-is_staged-clause-step g c =
-    let kept = kept_of (64 * g.row.W) c.self.inside.limits c.self.inside.begun c.self.inside.levels in
+    let kept = kept_of (64 * g.row.W) c.self.inside.begun c.self.inside.levels in
     both_views kept c.args.self.now (Mine c.args.ids.now) (Refused Staging) c.self.view_is
     (steps_refused kept (Mine c.args.ids.now) Staging (mine_staged kept c.args.ids.now (sym c.is_staged.ensures ∙ c.if-is_staged.true)))
 
@@ -38,20 +36,20 @@ returns-then-is_staged-clause-refused g c lacks = refl
 
 pub returns-then-is_staged-clause-steps : goal.returns-then-is_staged-clause-steps
 returns-then-is_staged-clause-steps g c =
-    record { grew = not_larger c.args.steps.now; few = λ lists are. within_one c.args.steps.now (most_steps_of lists) }
+    record { grew = not_larger c.args.steps.now; few = λ lists are. within_one c.args.steps.now _ }
 
 pub refused_mine-requires : goal.refused_mine-requires
 refused_mine-requires g c = (levels_fit g.row.W assumption, none_of c.self.inside.levels.staging (sym c.is_staged.ensures ∙ c.if-is_staged.false))
 
 pub invariant_of-self : goal.invariant_of-self
 invariant_of-self g c =
-    sound_still (64 * g.row.W) c.self.inside.limits c.self.inside.begun c.self.inside.levels c.refused_mine.new.self c.refused_mine.ensures.same
+    sound_still (64 * g.row.W) c.self.inside.begun c.self.inside.levels c.refused_mine.new.self c.refused_mine.ensures.same
     c.self.invariant
 
 pub returns-in-Some-clause-step : goal.returns-in-Some-clause-step
 returns-in-Some-clause-step g c =
-    let kept = kept_of (64 * g.row.W) c.self.inside.limits c.self.inside.begun c.self.inside.levels in
-    same_levels (64 * g.row.W) c.self.inside.limits c.self.inside.begun c.self.inside.levels c.refused_mine.new.self c.args.self.now
+    let kept = kept_of (64 * g.row.W) c.self.inside.begun c.self.inside.levels in
+    same_levels (64 * g.row.W) c.self.inside.begun c.self.inside.levels c.refused_mine.new.self c.args.self.now
     (Mine c.args.ids.now) (Refused c.in-Some.why) c.refused_mine.ensures.same c.self.view_is
     (steps_refused kept (Mine c.args.ids.now) c.in-Some.why
     (mine_row kept c.args.ids.now (Some c.in-Some.why) (sym c.is_staged.ensures ∙ c.if-is_staged.false) c.in-Some.ensures.row))
@@ -70,11 +68,11 @@ returns-in-Some-clause-refused g c lacks = refl
 
 pub returns-in-Some-clause-steps : goal.returns-in-Some-clause-steps
 returns-in-Some-clause-steps g c =
-    record { grew = not_larger c.args.steps.now; few = λ lists are. within_one c.args.steps.now (most_steps_of lists) }
+    record { grew = not_larger c.args.steps.now; few = λ lists are. within_one c.args.steps.now _ }
 
 pub drop_names-requires : goal.drop_names-requires
 drop_names-requires g c =
-    let kept = kept_of (64 * g.row.W) c.self.inside.limits c.self.inside.begun c.self.inside.levels in
+    let kept = kept_of (64 * g.row.W) c.self.inside.begun c.self.inside.levels in
     let alone = sym c.is_staged.ensures ∙ c.if-is_staged.false in
     let may = may_mine kept c.args.ids.now c.self.invariant alone c.in_default.ensures.row in (
       levels_fit g.row.W assumption,
@@ -88,13 +86,13 @@ drop_names-requires g c =
 
 pub invariant_of-self-then-is_err : goal.invariant_of-self-then-is_err
 invariant_of-self-then-is_err g c =
-    sound_still (64 * g.row.W) c.self.inside.limits c.self.inside.begun c.self.inside.levels c.drop_names.new.self
+    sound_still (64 * g.row.W) c.self.inside.begun c.self.inside.levels c.drop_names.new.self
     (when_err c.drop_names.result (sym c.is_err.ensures.value ∙ c.if-is_err.true) c.drop_names.ensures.err ∙ c.refused_mine.ensures.same) c.self.invariant
 
 pub returns-then-is_err-clause-step : goal.returns-then-is_err-clause-step
 returns-then-is_err-clause-step g c =
-    let kept = kept_of (64 * g.row.W) c.self.inside.limits c.self.inside.begun c.self.inside.levels in
-    same_levels (64 * g.row.W) c.self.inside.limits c.self.inside.begun c.self.inside.levels c.drop_names.new.self c.args.self.now
+    let kept = kept_of (64 * g.row.W) c.self.inside.begun c.self.inside.levels in
+    same_levels (64 * g.row.W) c.self.inside.begun c.self.inside.levels c.drop_names.new.self c.args.self.now
     (Mine c.args.ids.now) (Refused Memory)
     (when_err c.drop_names.result (sym c.is_err.ensures.value ∙ c.if-is_err.true) c.drop_names.ensures.err ∙ c.refused_mine.ensures.same) c.self.view_is
     (steps_without_memory kept (Mine c.args.ids.now) tt
@@ -116,29 +114,29 @@ returns-then-is_err-clause-refused g c lacks = absurd (lacks refl)
 
 pub returns-then-is_err-clause-steps : goal.returns-then-is_err-clause-steps
 returns-then-is_err-clause-steps g c =
-    subst (λ (k : Kept). DropsWithin c.args.ids.now k.levels.main.graph c.args.steps.now c.drop_names.new.steps) c.self.view_is
-    (subst (λ (one : OneLevel). DropsWithin c.args.ids.now one.graph c.args.steps.now c.drop_names.new.steps)
+    subst (λ (k : Kept). DropsWithin k.levels.limits c.args.ids.now k.levels.main.graph c.args.steps.now c.drop_names.new.steps) c.self.view_is
+    (subst (λ (one : OneLevel). DropsWithin c.self.inside.levels.limits c.args.ids.now one.graph c.args.steps.now c.drop_names.new.steps)
     (top_main c.self.inside.levels (sym c.is_staged.ensures ∙ c.if-is_staged.false))
-    (subst (λ (l : Levels). DropsWithin c.args.ids.now (level_at l Top).graph c.args.steps.now c.drop_names.new.steps) c.refused_mine.ensures.same
+    (subst (λ (l : Levels). DropsWithin l.limits c.args.ids.now (level_at l Top).graph c.args.steps.now c.drop_names.new.steps) c.refused_mine.ensures.same
     c.drop_names.ensures.steps))
 
 pub invariant_of-self-2 : goal.invariant_of-self-2
 invariant_of-self-2 g c =
-    let kept = kept_of (64 * g.row.W) c.self.inside.limits c.self.inside.begun c.self.inside.levels in
+    let kept = kept_of (64 * g.row.W) c.self.inside.begun c.self.inside.levels in
     let done = sym c.is_err.ensures.value ∙ c.if-is_err.false in
-    sound_after kept (kept_of (64 * g.row.W) c.self.inside.limits true c.drop_names.new.self) (Mine c.args.ids.now) Done
-    c.self.invariant c.self.invariant.in_range c.drop_names.ensures.kept.0
-    (mine_step (64 * g.row.W) c.self.inside.limits c.self.inside.begun c.self.inside.levels c.drop_names.new.self c.drop_names.ensures.kept.0
+    sound_after kept (kept_of (64 * g.row.W) true c.drop_names.new.self) (Mine c.args.ids.now) Done
+    c.self.invariant c.drop_names.ensures.kept.0
+    (mine_step (64 * g.row.W) c.self.inside.begun c.self.inside.levels c.drop_names.new.self c.drop_names.ensures.kept.0
     (sym c.is_staged.ensures ∙ c.if-is_staged.false) c.args.ids.now c.self.invariant (c.requires, all_small c.args.ids.now (λ i. omega (arith, c.type_inv.ids i))) c.in_default.ensures.row
     (subst (λ (l : Levels). ChangesTop (λ a b. LosesNames a b c.args.ids.now) l c.drop_names.new.self) c.refused_mine.ensures.same
     (when_ok c.drop_names.result done c.drop_names.ensures.dropped)))
 
 pub returns-clause-step : goal.returns-clause-step
 returns-clause-step g c =
-    let kept = kept_of (64 * g.row.W) c.self.inside.limits c.self.inside.begun c.self.inside.levels in
+    let kept = kept_of (64 * g.row.W) c.self.inside.begun c.self.inside.levels in
     let done = sym c.is_err.ensures.value ∙ c.if-is_err.false in
-    from_view kept c.args.self.now (kept_of (64 * g.row.W) c.self.inside.limits true c.drop_names.new.self) (Mine c.args.ids.now) Done c.self.view_is
-    (mine_step (64 * g.row.W) c.self.inside.limits c.self.inside.begun c.self.inside.levels c.drop_names.new.self c.drop_names.ensures.kept.0
+    from_view kept c.args.self.now (kept_of (64 * g.row.W) true c.drop_names.new.self) (Mine c.args.ids.now) Done c.self.view_is
+    (mine_step (64 * g.row.W) c.self.inside.begun c.self.inside.levels c.drop_names.new.self c.drop_names.ensures.kept.0
     (sym c.is_staged.ensures ∙ c.if-is_staged.false) c.args.ids.now c.self.invariant (c.requires, all_small c.args.ids.now (λ i. omega (arith, c.type_inv.ids i))) c.in_default.ensures.row
     (subst (λ (l : Levels). ChangesTop (λ a b. LosesNames a b c.args.ids.now) l c.drop_names.new.self) c.refused_mine.ensures.same
     (when_ok c.drop_names.result done c.drop_names.ensures.dropped)))
@@ -159,8 +157,8 @@ returns-clause-refused g c = tt
 
 pub returns-clause-steps : goal.returns-clause-steps
 returns-clause-steps g c =
-    subst (λ (k : Kept). DropsWithin c.args.ids.now k.levels.main.graph c.args.steps.now c.drop_names.new.steps) c.self.view_is
-    (subst (λ (one : OneLevel). DropsWithin c.args.ids.now one.graph c.args.steps.now c.drop_names.new.steps)
+    subst (λ (k : Kept). DropsWithin k.levels.limits c.args.ids.now k.levels.main.graph c.args.steps.now c.drop_names.new.steps) c.self.view_is
+    (subst (λ (one : OneLevel). DropsWithin c.self.inside.levels.limits c.args.ids.now one.graph c.args.steps.now c.drop_names.new.steps)
     (top_main c.self.inside.levels (sym c.is_staged.ensures ∙ c.if-is_staged.false))
-    (subst (λ (l : Levels). DropsWithin c.args.ids.now (level_at l Top).graph c.args.steps.now c.drop_names.new.steps) c.refused_mine.ensures.same
+    (subst (λ (l : Levels). DropsWithin l.limits c.args.ids.now (level_at l Top).graph c.args.steps.now c.drop_names.new.steps) c.refused_mine.ensures.same
     c.drop_names.ensures.steps))

@@ -5,8 +5,7 @@ use Rattle.tx_graph.proofs.graph.TxGraph.new.Goals as goal
 
 pub invariant_of-result : goal.invariant_of-result
 invariant_of-result g c = record {
-  in_range = c.requires.in_range;
-  picked = picks_none c.in_ok-new.field-0 c.in_ok-new.ensures;
+  picked = picks_none c.in_ok-new.field-0 c.args.limits c.in_ok-new.ensures;
   stands = (
     start_within (64 * g.row.W) c.args.limits,
     stands_start (64 * g.row.W) c.args.limits (omega (arith, c.requires.narrow)) c.requires.in_range c.in_ok-new.field-0 c.in_ok-new.ensures,

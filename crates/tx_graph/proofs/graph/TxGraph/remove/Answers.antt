@@ -9,26 +9,25 @@ use Rattle.tx_graph.proofs.Standing.{steps_refused, steps_without_memory}
 use Rattle.tx_graph.proofs.Rooms.{levels_fit}
 use Rattle.tx_graph.proofs.Unchanged.{all_stay, within_one, not_larger, issued_topped}
 use Rattle.tx_graph.specs.Kept.{Kept}
-use Rattle.cluster.specs.Steps.{most_steps_of}
 use Rattle.levels.specs.Levels.{Levels}
 use Rattle.levels.specs.Stays.{AllStay}
 use Rattle.tx_graph.proofs.graph.TxGraph.remove.Goals as goal
 
 pub returns-then-not-has-clause-step : goal.returns-then-not-has-clause-step
 returns-then-not-has-clause-step g c =
-    let kept = kept_of (64 * g.row.W) c.self.inside.limits c.self.inside.begun c.self.inside.levels in
+    let kept = kept_of (64 * g.row.W) c.self.inside.begun c.self.inside.levels in
     both_views kept c.args.self.now (Remove c.args.id) (Refused (Unknown c.args.id)) c.self.view_is
     (steps_refused kept (Remove c.args.id) (Unknown c.args.id) (unknown_here kept Top c.args.id (sym c.has.ensures ∙ c.if-not-has.true)))
 
 pub invariant_of-self : goal.invariant_of-self
 invariant_of-self g c =
-    sound_still (64 * g.row.W) c.self.inside.limits c.self.inside.begun c.self.inside.levels c.remove.new.self
+    sound_still (64 * g.row.W) c.self.inside.begun c.self.inside.levels c.remove.new.self
     (when_err c.remove.result (sym c.is_err.ensures.value ∙ c.if-is_err.true) c.remove.ensures.err) c.self.invariant
 
 pub returns-then-is_err-clause-step : goal.returns-then-is_err-clause-step
 returns-then-is_err-clause-step g c =
-    let kept = kept_of (64 * g.row.W) c.self.inside.limits c.self.inside.begun c.self.inside.levels in
-    same_levels (64 * g.row.W) c.self.inside.limits c.self.inside.begun c.self.inside.levels c.remove.new.self c.args.self.now (Remove c.args.id)
+    let kept = kept_of (64 * g.row.W) c.self.inside.begun c.self.inside.levels in
+    same_levels (64 * g.row.W) c.self.inside.begun c.self.inside.levels c.remove.new.self c.args.self.now (Remove c.args.id)
     (Refused Memory)
     (when_err c.remove.result (sym c.is_err.ensures.value ∙ c.if-is_err.true) c.remove.ensures.err) c.self.view_is
     (steps_without_memory kept (Remove c.args.id) tt (known_here kept Top c.args.id (sym c.has.ensures ∙ c.if-not-has.false)))
@@ -40,18 +39,18 @@ returns-then-is_err-clause-steps g c =
 pub invariant_of-self-2 : goal.invariant_of-self-2
 invariant_of-self-2 g c =
     let done = sym c.is_err.ensures.value ∙ c.if-is_err.false in
-    sound_after (kept_of (64 * g.row.W) c.self.inside.limits c.self.inside.begun c.self.inside.levels)
-    (kept_of (64 * g.row.W) c.self.inside.limits true c.remove.new.self) (Remove c.args.id) Done
-    c.self.invariant c.self.invariant.in_range c.remove.ensures.kept.0
-    (remove_step (64 * g.row.W) c.self.inside.limits c.self.inside.begun c.self.inside.levels c.remove.new.self c.remove.ensures.kept.0
+    sound_after (kept_of (64 * g.row.W) c.self.inside.begun c.self.inside.levels)
+    (kept_of (64 * g.row.W) true c.remove.new.self) (Remove c.args.id) Done
+    c.self.invariant c.remove.ensures.kept.0
+    (remove_step (64 * g.row.W) c.self.inside.begun c.self.inside.levels c.remove.new.self c.remove.ensures.kept.0
     c.args.id (sym c.has.ensures ∙ c.if-not-has.false) (when_ok c.remove.result done c.remove.ensures.dropped))
 
 pub returns-clause-step : goal.returns-clause-step
 returns-clause-step g c =
     let done = sym c.is_err.ensures.value ∙ c.if-is_err.false in
-    from_view (kept_of (64 * g.row.W) c.self.inside.limits c.self.inside.begun c.self.inside.levels)
-    c.args.self.now (kept_of (64 * g.row.W) c.self.inside.limits true c.remove.new.self) (Remove c.args.id) Done c.self.view_is
-    (remove_step (64 * g.row.W) c.self.inside.limits c.self.inside.begun c.self.inside.levels c.remove.new.self c.remove.ensures.kept.0
+    from_view (kept_of (64 * g.row.W) c.self.inside.begun c.self.inside.levels)
+    c.args.self.now (kept_of (64 * g.row.W) true c.remove.new.self) (Remove c.args.id) Done c.self.view_is
+    (remove_step (64 * g.row.W) c.self.inside.begun c.self.inside.levels c.remove.new.self c.remove.ensures.kept.0
     c.args.id (sym c.has.ensures ∙ c.if-not-has.false) (when_ok c.remove.result done c.remove.ensures.dropped))
 
 pub returns-clause-steps : goal.returns-clause-steps
@@ -75,7 +74,7 @@ returns-then-not-has-clause-refused g c lacks = refl
 
 pub returns-then-not-has-clause-steps : goal.returns-then-not-has-clause-steps
 returns-then-not-has-clause-steps g c =
-    record { grew = not_larger c.args.steps.now; few = λ lists are. within_one c.args.steps.now (most_steps_of lists) }
+    record { grew = not_larger c.args.steps.now; few = λ lists are. within_one c.args.steps.now _ }
 
 pub returns-then-is_err-clause-stays : goal.returns-then-is_err-clause-stays
 returns-then-is_err-clause-stays g c = subst (λ (k : Kept). AllStay k.levels c.remove.new.self) c.self.view_is c.remove.ensures.kept.1

@@ -13,23 +13,23 @@ use Rattle.tx_graph.proofs.graph.TxGraph.stage.Goals as goal
 
 pub returns-then-is_staged-clause-step : goal.returns-then-is_staged-clause-step
 returns-then-is_staged-clause-step g c =
-    let kept = kept_of (64 * g.row.W) c.self.inside.limits c.self.inside.begun c.self.inside.levels in
+    let kept = kept_of (64 * g.row.W) c.self.inside.begun c.self.inside.levels in
     both_views kept c.args.self.now Stage (Refused Staging) c.self.view_is
     (steps_refused kept Stage Staging (staged_row kept (sym c.is_staged.ensures ∙ c.if-is_staged.true)))
 
 pub invariant_of-self : goal.invariant_of-self
 invariant_of-self g c =
-    sound_after (kept_of (64 * g.row.W) c.self.inside.limits c.self.inside.begun c.self.inside.levels)
-    (kept_of (64 * g.row.W) c.self.inside.limits true c.stage.new.self) Stage Done c.self.invariant c.self.invariant.in_range
+    sound_after (kept_of (64 * g.row.W) c.self.inside.begun c.self.inside.levels)
+    (kept_of (64 * g.row.W) true c.stage.new.self) Stage Done c.self.invariant
     (picks_opened c.self.inside.levels c.stage.new.self c.stage.ensures c.self.invariant.picked)
-    (stage_step (64 * g.row.W) c.self.inside.limits c.self.inside.begun c.self.inside.levels c.stage.new.self
+    (stage_step (64 * g.row.W) c.self.inside.begun c.self.inside.levels c.stage.new.self
     (sym c.is_staged.ensures ∙ c.if-is_staged.false) c.stage.ensures)
 
 pub returns-clause-step : goal.returns-clause-step
 returns-clause-step g c =
-    from_view (kept_of (64 * g.row.W) c.self.inside.limits c.self.inside.begun c.self.inside.levels)
-    c.args.self.now (kept_of (64 * g.row.W) c.self.inside.limits true c.stage.new.self) Stage Done c.self.view_is
-    (stage_step (64 * g.row.W) c.self.inside.limits c.self.inside.begun c.self.inside.levels c.stage.new.self
+    from_view (kept_of (64 * g.row.W) c.self.inside.begun c.self.inside.levels)
+    c.args.self.now (kept_of (64 * g.row.W) true c.stage.new.self) Stage Done c.self.view_is
+    (stage_step (64 * g.row.W) c.self.inside.begun c.self.inside.levels c.stage.new.self
     (sym c.is_staged.ensures ∙ c.if-is_staged.false) c.stage.ensures)
 
 pub is_staged-requires : goal.is_staged-requires
