@@ -1,5 +1,5 @@
 //! What `evict` and `block` tell, beside the order that the session tells and the components of the plain lists.
-use crate::replies::{Lists, PROOF, said};
+use crate::replies::{Lists, PROOF, refuses, said};
 use certificate::Part;
 use fee_rate::Sum;
 use graph_model::{Level, Refusal, TxId};
@@ -22,13 +22,17 @@ fn order<const W: usize>(
     Ok(read_certificate(alloc, told.written()).expect(rt, "an order is a text"))
 }
 
-/// Lets the session drop its last part, which must be told, and drops its names from the lists.
+/// Lets the session drop its last part, which must be told, and drops its names from the lists. Where main is oversized it must refuse.
 pub fn evict<const W: usize>(
     rt: &impl Abort,
     alloc: Global,
     session: &mut Session<W>,
     lists: &mut Lists,
 ) -> Result<(), Fail> {
+    if lists.over(Level::Main) {
+        let why = if lists.is_staged() { Refusal::Staging } else { Refusal::Oversized };
+        return refuses(rt, alloc, session, "evict", &why);
+    }
     let text = order(rt, alloc, session)?;
     let done = said(rt, alloc, session, "evict")?;
     let mut wanted = MemSink::new(alloc, PROOF, &[], PROOF)?;
@@ -75,7 +79,7 @@ fn block(
     Ok((sum, ids))
 }
 
-/// Compares a block of the session with one that is made of its order.
+/// Compares a block of the session with one that is made of its order. Where main is oversized it must refuse.
 pub fn fill<const W: usize>(
     rt: &impl Abort,
     alloc: Global,
@@ -83,11 +87,14 @@ pub fn fill<const W: usize>(
     lists: &mut Lists,
     limit: u64,
 ) -> Result<(), Fail> {
+    let line = format!(in alloc; "block {limit}")?;
+    if lists.over(Level::Main) {
+        return refuses(rt, alloc, session, &line, &Refusal::Oversized);
+    }
     let text = order(rt, alloc, session)?;
     let (sum, ids) = block(alloc, lists.main(), text.parts.as_slice(), limit)?;
     let mut wanted = MemSink::new(alloc, PROOF, &[], PROOF)?;
     write_ids(&mut wanted, "block", Some(sum), &ids)?;
-    let line = format!(in alloc; "block {limit}")?;
     let told = said(rt, alloc, session, &line)?;
     assert_eq!(rt; told.written(), wanted.written());
     Ok(())

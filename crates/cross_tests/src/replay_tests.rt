@@ -149,7 +149,7 @@ const RUNS: [Row; 16] = [
          refused late\nrefused syntax\nrefused syntax\nrefused syntax\nrefused unknown 9\nrefused syntax\n",
     ),
     (
-        "mine\ntrim\nunmine\ndump\nlimits 64 1 1 defer\nblock 1 1\nevict 1\n",
+        "mine\ntrim\nunmine\ndump\nlimits 64 1 defer\nblock 1 1\nevict 1\n",
         "refused syntax\nrefused syntax\nrefused syntax\nrefused syntax\nrefused syntax\nrefused syntax\nrefused syntax\n",
     ),
 ];
@@ -183,6 +183,45 @@ const BLOCKS: [Row; 7] = [
     (
         "mine 1 2 1 2\nadd 1 2100000000000000 1\nadd 2 -2100000000000000 1\nadd 3 2100000000000000 1\nblock 2\nevict\nblock 18446744073709551615\nlimits 64 1 1\n",
         "refused twice 1\nok\nok\nok\nblock 4200000000000000 2 1 3\nevicted -2100000000000000 1 2\nblock 4200000000000000 2 1 3\nrefused late\n",
+    ),
+];
+
+/// Inputs of `replay` whose dependencies may pass the limits, with their outputs.
+const OVERSIZED: [Row; 6] = [
+    (
+        "limits 2 1000 10 defer\nadd 1 3 1\nadd 2 2 1\nadd 3 1 1\ndep 1 2\ndep 2 3\ndep 1 3\norder main\ncount main\n\
+         ancestors 3 main\ncluster 9 top\nevict\nremove 3\norder main\n",
+        "ok\nok\nok\nok\nok\nok\nok\nrefused oversized\ncount 3\nrefused oversized\nrefused unknown 9\nrefused oversized\n\
+         ok\nchunk 3 1 1\nchunk 2 1 2\nend\n",
+    ),
+    (
+        "limits 2 1000 10 defer\nadd 1 1 1\nadd 2 1 1\nstage\nadd 3 1 1\ndep 1 2\ndep 2 3\ndep 3 1\ncompare\nsettle\n\
+         block 9\nabort\ndiagram main\n",
+        "ok\nok\nok\nok\nok\nok\nok\nrefused cycle\nrefused oversized\nrefused oversized\nblock 2 2 1 2\nok\n\
+         point 0 0\npoint 2 2\nend\n",
+    ),
+    (
+        "limits 2 9 10 defer\nadd 1 1 10\nadd 1 5 5\nadd 2 5 4\ndep 1 2\ndiagram main\nadd 3 1 1\ndep 3 1\ndiagram main\n\
+         proof top\ndescendants 1 top\nchunk 9\nchunk 1\nbefore 1 9\nbefore 1 2\nblock 9\nlimits 64 9 9\n",
+        "ok\nrefused clustersize 10\nok\nok\nok\npoint 0 0\npoint 4 5\npoint 9 10\nend\nok\nok\nrefused oversized\n\
+         refused oversized\nrefused oversized\nrefused unknown 9\nrefused oversized\nrefused unknown 9\nrefused oversized\n\
+         refused oversized\nrefused late\n",
+    ),
+    (
+        "limits 2 9 10 defer\nadd 1 5 5\nadd 2 5 5\ndep 1 2\ncluster 1 main\nfee 2 7\nstage\nevict\nabort\nmine 2\nmine 1\ncluster 2 top\nproof main\n",
+        "ok\nok\nok\nok\nrefused oversized\nok\nok\nrefused staging\nok\nrefused parent 2\nok\nids 2\n\
+         tx 2 7 5\nchunk 7 5 2\nend\n",
+    ),
+    (
+        "limits 3 100 10 defer\nadd 1 1 1\nadd 2 2 1\nadd 3 3 1\nadd 4 4 1\ndep 1 2\ndep 2 3\nstage\ndep 3 4\norder top\norder main\n\
+         commit\norder main\nstage\nremove 4\nsettle\nabort\nstage\nremove 1\ncommit\norder main\n",
+        "ok\nok\nok\nok\nok\nok\nok\nok\nok\nrefused oversized\nchunk 4 1 4\nchunk 6 3 1 2 3\nend\n\
+         ok\nrefused oversized\nok\nok\nrefused oversized\nok\nok\nok\nok\nchunk 9 3 2 3 4\nend\n",
+    ),
+    (
+        "limits 129 1 1 defer\nlimits 1 1 1  defer\nlimits 1 1 1 defer defer\nlimits 1 1 1 DEFER\nlimits 1 1 1 defer\nlimits 1 1 2\n\
+         add 1 0 1\nadd 2 0 1\nlimits 1 1 1 defer\n",
+        "refused range\nrefused syntax\nrefused syntax\nrefused syntax\nok\nok\nok\nok\nrefused late\n",
     ),
 ];
 
@@ -301,6 +340,10 @@ fn blocks() -> &'static [Row] {
     &BLOCKS
 }
 
+fn oversized() -> &'static [Row] {
+    &OVERSIZED
+}
+
 fn orders() -> &'static [Row] {
     &ORDERS
 }
@@ -328,6 +371,11 @@ fn replies_are_the_same_whatever_the_pieces(rt: HostRuntime) -> Result<(), Fail>
 #[test]
 fn blocks_and_evictions_are_told(rt: HostRuntime) -> Result<(), Fail> {
     replay_all(&rt, rt.alloc(), blocks(), 4096)
+}
+
+#[test]
+fn oversized_levels_are_told(rt: HostRuntime) -> Result<(), Fail> {
+    replay_all(&rt, rt.alloc(), oversized(), 4096)
 }
 
 #[test]

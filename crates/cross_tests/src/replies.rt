@@ -12,6 +12,7 @@ use wire::{Line, read_line, write_ids, write_refusal, write_word};
 /// The plain lists of both levels.
 #[derive(Drop)]
 pub struct Lists {
+    alloc: Global,
     /// the names that are live, for refusals that ask both levels
     live: Plain,
     main: Plain,
@@ -21,10 +22,16 @@ pub struct Lists {
 impl Lists {
     fn new(alloc: Global) -> Result<Lists, NoMemory> {
         Ok(Lists {
+            alloc,
             live: Plain::new(alloc)?,
             main: Plain::new(alloc)?,
             staging: None,
         })
+    }
+
+    /// Whether a level is oversized.
+    pub fn over(&mut self, level: Level) -> bool {
+        self.level(level).oversized(level)
     }
 
     fn level(&mut self, level: Level) -> &mut Plain {
@@ -61,8 +68,8 @@ impl Lists {
     fn remove(&mut self, id: TxId) -> Result<(), Refusal> {
         self.level(Level::Top).remove(id)?;
         match self.main.cluster(id, Level::Main) {
-            Ok(()) => Ok(()),
-            Err(_) => self.live.remove(id),
+            Err(Refusal::Unknown(_)) => self.live.remove(id),
+            _ => Ok(()),
         }
     }
 
@@ -98,11 +105,12 @@ impl Lists {
         }
         first_again(ids)?;
         for id in ids {
-            self.main.ancestors(*id, Level::Main)?;
+            if let Err(Refusal::Unknown(id)) = self.main.cluster(*id, Level::Main) {
+                return Err(Refusal::Unknown(id));
+            }
         }
         for id in ids {
-            self.main.ancestors(*id, Level::Main)?;
-            if !all_in(self.main.found(), ids) {
+            if leads_out(self.alloc, self.main.pairs(), ids, *id).map_err(|_| Refusal::Memory)? {
                 return Err(Refusal::Parent(*id));
             }
         }
@@ -132,14 +140,27 @@ fn first_again(ids: &[TxId]) -> Result<(), Refusal> {
     Ok(())
 }
 
-/// Whether all of some names are in a list.
-fn all_in(some: &[TxId], ids: &[TxId]) -> bool {
-    for id in some {
-        if !ids.contains(id) {
-            return false;
+/// Whether a listed name has an ancestor that isn't listed.
+fn leads_out(
+    alloc: Global,
+    pairs: &[(TxId, TxId)],
+    ids: &[TxId],
+    id: TxId,
+) -> Result<bool, AllocError> {
+    let mut above = Vec::new(alloc);
+    above.push(id)?;
+    for _ in ids {
+        for (parent, child) in pairs {
+            if !above.as_slice().contains(child) || above.as_slice().contains(parent) {
+                continue;
+            }
+            if !ids.contains(parent) {
+                return Ok(true);
+            }
+            above.push(*parent)?;
         }
     }
-    true
+    Ok(false)
 }
 
 /// The same lists once more.
@@ -177,7 +198,7 @@ fn reply<K: Sink>(
 ) -> Result<(), Failed> {
     match line {
         Line::Quiet => Ok(()),
-        Line::Limits(limits) if !limits.defer => tell(sink, lists.set_limits(limits)),
+        Line::Limits(limits) => tell(sink, lists.set_limits(limits)),
         Line::Add(id, fee, size) => tell(sink, lists.add(rt, id, fee, size)),
         Line::Dep(parent, child) => tell(sink, lists.level(Level::Top).dep(parent, child)),
         Line::Fee(id, fee) => tell(sink, lists.fee(id, fee)),
@@ -266,6 +287,21 @@ pub fn said<const W: usize>(
     Ok(sink)
 }
 
+/// A session refuses a line for this cause.
+pub fn refuses<const W: usize>(
+    rt: &impl Abort,
+    alloc: Global,
+    session: &mut Session<W>,
+    line: &str,
+    why: &Refusal,
+) -> Result<(), Fail> {
+    let told = said(rt, alloc, session, line)?;
+    let mut wanted = MemSink::new(alloc, 64, &[], 64)?;
+    write_refusal(&mut wanted, why)?;
+    assert_eq!(rt; told.written(), wanted.written(), "at {line:?}");
+    Ok(())
+}
+
 /// Hands a line to both, and compares the replies.
 fn agree<const W: usize>(
     rt: &impl Abort,
@@ -284,13 +320,18 @@ fn agree<const W: usize>(
     Ok(())
 }
 
-/// Lets the session settle, which must commit exactly what it says is better, and closes the lists' staging as it did.
+/// Lets the session settle, which must commit exactly what it says is better, and closes the lists' staging as it did. Where a level is
+/// oversized it must refuse, and the staging stays.
 fn settle<const W: usize>(
     rt: &impl Abort,
     alloc: Global,
     session: &mut Session<W>,
     lists: &mut Lists,
 ) -> Result<(), Fail> {
+    if lists.is_staged() && (lists.over(Level::Main) || lists.over(Level::Top)) {
+        refuses(rt, alloc, session, "compare", &Refusal::Oversized)?;
+        return refuses(rt, alloc, session, "settle", &Refusal::Oversized);
+    }
     let verdict = said(rt, alloc, session, "compare")?;
     let done = said(rt, alloc, session, "settle")?;
     let commits = verdict.written() == b"better\n".as_slice();
@@ -309,14 +350,20 @@ fn settle<const W: usize>(
 /// Room for a reply of a session, in bytes.
 pub const PROOF: usize = 1_000_000;
 
-/// Hands the proof of a level to the checker, which must say `yes`.
+/// Hands the proof of a level to the checker, which must say `yes`. Where the level is oversized its readings must be refused.
 fn prove<const W: usize>(
     rt: &impl Abort,
     alloc: Global,
     session: &mut Session<W>,
-    line: &str,
+    lists: &mut Lists,
+    level: Level,
 ) -> Result<(), Fail> {
-    let proof = said(rt, alloc, session, line)?;
+    let word = if level == Level::Main { "main" } else { "top" };
+    let line = format!(in alloc; "proof {word}")?;
+    if lists.over(level) {
+        return refuses(rt, alloc, session, &line, &Refusal::Oversized);
+    }
+    let proof = said(rt, alloc, session, &line)?;
     let mut yes = MemSink::new(alloc, 16, &[], 16)?;
     let mut source = MemSource::new(alloc, proof.written(), PROOF, &[], None)?;
     let words = [format!(in alloc; "txgraph")?, format!(in alloc; "check")?];
@@ -360,11 +407,75 @@ fn agree_on_run<const W: usize>(
             fill(rt, alloc, session, lists, draw(&mut state, 5000))?;
         }
         if at % 100 == 0 {
-            prove(rt, alloc, session, "proof main")?;
-            prove(rt, alloc, session, "proof top")?;
+            prove(rt, alloc, session, lists, Level::Main)?;
+            prove(rt, alloc, session, lists, Level::Top)?;
         }
     }
     agree(rt, alloc, session, lists, limits)
+}
+
+/// The next line of a run on a few names that are joined and parted all the time.
+fn close_line(alloc: Global, state: &mut u64) -> Result<String, AllocError> {
+    let one = draw(state, 12);
+    let other = draw(state, 12);
+    let level = if draw(state, 2) == 0 { "main" } else { "top" };
+    match draw(state, 24) {
+        0..6 => {
+            let size = 1 + draw(state, 9);
+            format!(in alloc; "add {one} {size} {size}")
+        }
+        6..11 => format!(in alloc; "dep {one} {other}"),
+        11 => format!(in alloc; "fee {one} {other}"),
+        12..16 => format!(in alloc; "remove {one}"),
+        16 => format!(in alloc; "cluster {one} {level}"),
+        17 => format!(in alloc; "ancestors {one} {level}"),
+        18 => format!(in alloc; "descendants {one} {level}"),
+        19 => format!(in alloc; "mine {one} {other}"),
+        20 => format!(in alloc; "mine {one}"),
+        21 => String::from_str(alloc, "evict"),
+        _ => String::from_str(alloc, staging_line(draw(state, 8))),
+    }
+}
+
+/// Where runs begin whose dependencies may pass the limits, and the line that sets these.
+const DEFERRED: [(u64, &str); 3] = [
+    (6, "limits 3 1000 10 defer"),
+    (7, "limits 64 12 1000 defer"),
+    (8, "limits 1 9 12 defer"),
+];
+
+fn deferred() -> &'static [(u64, &'static str)] {
+    &DEFERRED
+}
+
+/// Hands a run to both whose levels are oversized and mended often. Answers how often main was oversized, and how often it wasn't.
+fn agree_oversized<const W: usize>(
+    rt: &impl Abort,
+    alloc: Global,
+    session: &mut Session<W>,
+    lists: &mut Lists,
+    seed: u64,
+    limits: &str,
+) -> Result<(u64, u64), Fail> {
+    let mut state = seed;
+    let mut seen: (u64, u64) = (0, 0);
+    agree(rt, alloc, session, lists, limits)?;
+    for _ in 0..3000 {
+        let line = close_line(alloc, &mut state)?;
+        match line.as_str() {
+            "settle" => settle(rt, alloc, session, lists)?,
+            "evict" => evict(rt, alloc, session, lists)?,
+            _ => agree(rt, alloc, session, lists, &line)?,
+        }
+        fill(rt, alloc, session, lists, draw(&mut state, 30))?;
+        prove(rt, alloc, session, lists, Level::Main)?;
+        prove(rt, alloc, session, lists, Level::Top)?;
+        match lists.over(Level::Main) {
+            true => seen.0 = seen.0.saturating_add(1),
+            false => seen.1 = seen.1.saturating_add(1),
+        }
+    }
+    Ok(seen)
 }
 
 /// A run of lines from the start.
@@ -380,6 +491,21 @@ fn agree_from_start(rt: &impl Abort, alloc: Global, seed: u64, limits: &str) -> 
 fn a_session_replies_as_the_plain_lists_do(rt: HostRuntime) -> Result<(), Fail> {
     for (seed, limits) in runs() {
         agree_from_start(&rt, rt.alloc(), *seed, limits)?;
+    }
+    Ok(())
+}
+
+#[test]
+fn a_session_replies_as_the_plain_lists_do_where_limits_are_passed(
+    rt: HostRuntime,
+) -> Result<(), Fail> {
+    for (seed, limits) in deferred() {
+        let mut lists = Lists::new(rt.alloc())?;
+        let mut session = Session::<2>::new(rt.alloc())?;
+        let seen = agree_oversized(&rt, rt.alloc(), &mut session, &mut lists, *seed, limits);
+        session.close();
+        let (over, within) = seen?;
+        assert!(rt; over > 500 && within > 500, "{over} and {within}");
     }
     Ok(())
 }

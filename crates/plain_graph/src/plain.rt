@@ -403,6 +403,13 @@ impl Plain {
         self.found.ids()
     }
 
+    /// The pairs, the parent first in each.
+    pub fn pairs(&self) -> &[(TxId, TxId)]
+        ensures { result.now ≡ self.now.pairs }
+    {
+        &self.pairs
+    }
+
     /// Whether a level is oversized: one of its clusters is over the limits, which stands only where
     /// dependencies may bring one over them. Takes no memory.
     pub fn oversized(&self, level: Level) -> bool

@@ -227,7 +227,7 @@ fn fill_block<const W: usize>(
     graph: &TxGraph<W>,
     size: u64,
 ) -> Result<Picked, Refusal>
-    ensures { MakesStep graph.now graph.now (Block size) (built_reply result) }
+    ensures step { MakesStep graph.now graph.now (Block size) (built_reply result) }
 {
     if graph.oversized(Level::Main) {
         return Err(Refusal::Oversized);

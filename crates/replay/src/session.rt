@@ -56,7 +56,9 @@ impl<const W: usize> Model for Session<W> {
 
 impl<const W: usize> Session<W> {
     ghost use Rattle.tx_graph.specs.Kept.{Kept, StandsFor};
+    ghost use Rattle.graphs.specs.declared.names.Level.TheVariants.{Main};
     ghost use Rattle.graph_model.specs.States.{State, start};
+    ghost use Rattle.levels.specs.Levels.{IsWithin};
     ghost use Rattle.replay.specs.Answers.{AnswersMeaning, outcome_of};
     ghost use Rattle.replay.specs.Generations.{AreTotals};
     ghost use Rattle.replay.specs.Gatherings.{Gathers};

@@ -1,5 +1,5 @@
 pub mod Standing
-mod Oversizing
+pub mod Oversizing
 mod Picked
 mod Tops
 mod Rows

@@ -1,3 +1,4 @@
+use Rattle.std.proofs.Common.{rules}
 use Rattle.replay.specs.Generations.{summary_of}
 use Rattle.replay.proofs.PlayLemmas.{played_within}
 use Rattle.replay.proofs.SummaryLemmas.{summarizes}
@@ -16,4 +17,4 @@ returns-in-Err-clause-generates g c =
     (summary_of c.play-tally.result c.totals-totals.result, run, written)
 
 pub totals-totals-requires : goal.totals-totals-requires
-totals-totals-requires g c = played_within c.args.seed c.args.count _ c.play-tally.result c.play-tally.ensures
+totals-totals-requires g c = (search rules, played_within c.args.seed c.args.count _ c.play-tally.result c.play-tally.ensures)
