@@ -30,6 +30,7 @@ fn add<L: Ledger>(
     assert!(rt; !levels.has(Level::Top, id));
     assert!(rt; levels.live() < 1000);
     assert!(rt; levels.issued() < 1000);
+    assert!(rt; 200 <= levels.limits().size);
     levels.add(id, fee, 200, steps)?;
     Ok(())
 }
@@ -42,7 +43,7 @@ fn depend<L: Ledger>(
     parent: TxId,
     child: TxId,
 ) {
-    assert!(rt; levels.dep(&ROOMY, parent, child, steps).is_ok());
+    assert!(rt; levels.dep(parent, child, steps).is_ok());
 }
 
 // Drops a name of the top level.
@@ -98,8 +99,11 @@ fn change<L: Ledger>(
     add(rt, levels, steps, 4, 7)
 }
 
-// The names of the cluster of a name of a level.
+// The names of the cluster of a name of a level, which isn't oversized.
 fn names_of(levels: &Levels<1>, level: Level, id: TxId) -> usize {
+    if levels.oversized(level) {
+        return 0;
+    }
     match levels.find(level, id) {
         Some(cluster) => cluster.names().len(),
         None => 0,
@@ -194,7 +198,7 @@ fn stagings<K: ledger::Ledger>(
 
 #[test]
 fn main_stays_while_staging_changes(rt: HostRuntime) -> Result<(), Fail> {
-    let mut levels = Levels::new(rt.alloc())?;
+    let mut levels = Levels::new(rt.alloc(), ROOMY)?;
     let done = stagings::<Brand>(&rt, &mut levels, Blank::new(1));
     drop(levels);
     done

@@ -4,7 +4,7 @@ ghost use Rattle.std.specs.Prelude.{◌≡◌, ◌<◌};
 use crate::tx_calls::{Call, Graph, begun, count, done, make, narrow, narrow_mut};
 use block_builder::Builder;
 use eviction::{evict, worst};
-use graph_model::{IdBuf, Picked, Refusal, TxId};
+use graph_model::{IdBuf, Level, Picked, Refusal, TxId};
 use outside::NoMemory;
 use std::alloc::Global;
 use std::marker::Brand;
@@ -38,7 +38,13 @@ fn has(picked: &Picked, fee: i128, size: u64, ids: &[TxId]) -> bool {
     picked.fee == fee && picked.size == size && picked.ids.as_slice() == ids
 }
 
-fn filled(alloc: Global, graph: &TxGraph<1>, limit: u64) -> Result<Picked, NoMemory> {
+fn filled(
+    rt: &impl Abort,
+    alloc: Global,
+    graph: &TxGraph<1>,
+    limit: u64,
+) -> Result<Picked, NoMemory> {
+    assert!(rt; !graph.oversized(Level::Main));
     Builder::new(alloc, graph).fill(limit)
 }
 
@@ -66,6 +72,7 @@ fn offers(
     graph: &TxGraph<1>,
     parts: &[(&'static [TxId], bool)],
 ) -> Result<(), NoMemory> {
+    assert!(rt; !graph.oversized(Level::Main));
     let mut builder = Builder::new(alloc, graph);
     for (ids, included) in parts {
         goes_past(rt, &mut builder, ids, *included)?;
@@ -74,7 +81,8 @@ fn offers(
     Ok(())
 }
 
-fn has_worst(graph: &TxGraph<1>, ids: Option<&'static [TxId]>) -> bool {
+fn has_worst(rt: &impl Abort, graph: &TxGraph<1>, ids: Option<&'static [TxId]>) -> bool {
+    assert!(rt; !graph.oversized(Level::Main));
     match (worst(graph), ids) {
         (Some(part), Some(ids)) => part.ids == ids,
         (None, None) => true,
@@ -124,11 +132,11 @@ fn run<L: Ledger>(
     match row {
         Row::Does(call) => assert!(rt; make(rt, graph, call, out, steps).is_ok()),
         Row::Fills(limit, fee, size, ids) => {
-            let picked = filled(alloc, narrow(rt, graph), limit)?;
+            let picked = filled(rt, alloc, narrow(rt, graph), limit)?;
             assert!(rt; has(&picked, fee, size, ids));
         }
         Row::Offers(parts) => offers(rt, alloc, narrow(rt, graph), parts)?,
-        Row::Worst(ids) => assert!(rt; has_worst(narrow(rt, graph), ids)),
+        Row::Worst(ids) => assert!(rt; has_worst(rt, narrow(rt, graph), ids)),
         Row::Evicts(fee, size, ids) => evicts(rt, narrow_mut(rt, graph), fee, size, ids, steps),
         Row::Refuses(why) => refuses(rt, narrow_mut(rt, graph), why, steps),
         Row::Count(names) => assert!(rt; count(graph) == names),

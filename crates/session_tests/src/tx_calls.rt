@@ -260,11 +260,14 @@ pub(crate) fn count(graph: &Graph) -> usize {
 
 // Whether main's diagram has these corners.
 pub(crate) fn has_corners(graph: &TxGraph<1>, points: &[(u64, i128)]) -> bool {
-    graph.diagram(Level::Main).eq(points.iter().copied())
+    !graph.oversized(Level::Main) && graph.diagram(Level::Main).eq(points.iter().copied())
 }
 
 // Whether main's order begins with a part of these names.
 pub(crate) fn begins_with(graph: &TxGraph<1>, ids: &[TxId]) -> bool {
+    if graph.oversized(Level::Main) {
+        return false;
+    }
     match graph.order(Level::Main).next() {
         Some(part) => part.ids == ids,
         None => false,
