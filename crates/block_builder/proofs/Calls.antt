@@ -1,11 +1,10 @@
 -- What the calls of a builder do, by its fields.
-use Rattle.std.proofs.Common.{◌≡◌, ◌≢◌, ◌≤◌, ◌*◌, ℕ, unsigned_abs, Bool, true, false, List, [], ◌∷◌, map, Contains, Some, refl, sym, ap, ◌∙◌, subst}
+use Rattle.std.proofs.Common.{◌≡◌, ◌≢◌, ◌≤◌, ℕ, Bool, true, false, List, [], ◌∷◌, map, Contains, refl, sym, ◌∙◌, subst}
 use Rattle.lists.proofs.Entries.{Contains-map, first_of, not_empty}
 use Rattle.graphs.specs.Certificates.{Part}
 use Rattle.cluster_store.specs.Stores.{Shown}
-use Rattle.tx_graph.specs.Dropped.{ArePaidBySize}
 use Rattle.tx_graph.specs.Kept.{Kept}
-use Rattle.block_builder.specs.Building.{Building, AddsMark, PassesOver, StepsPast, TellsLeftOut}
+use Rattle.block_builder.specs.Building.{Building, AddsMark, PassesOver, StepsPast}
 use Rattle.block_builder.proofs.Marking.{left_taken, left_marked}
 use Rattle.block_builder.proofs.Passing.{steps_past}
 

@@ -1,6 +1,6 @@
 -- What a draft has is what is taken.
-use Rattle.std.proofs.Common.{◌≡◌, ◌↔◌, ℕ, ℤ, pos, ◌+◌, ◌-◌, ◌*◌, ◌+ℤ◌, ◌<◌, ◌≤◌, ◌⊎◌, inl, inr, unsigned_abs, Bool, true, false, true≢false, List, [], ◌∷◌, ◌++◌, map, flat_map, Contains, refl, sym, ap, ◌∙◌, subst, arith}
-use Rattle.std.specs.Prelude.{sum_by, Result, Ok, Err, OnOk, IsErr}
+use Rattle.std.proofs.Common.{◌≡◌, ℕ, ℤ, pos, ◌+◌, ◌-◌, ◌*◌, ◌+ℤ◌, ◌<◌, ◌≤◌, unsigned_abs, Bool, true, false, true≢false, List, [], ◌∷◌, ◌++◌, map, Contains, refl, sym, ap, ◌∙◌, subst, arith}
+use Rattle.std.specs.Prelude.{Result, Ok, Err, OnOk, IsErr}
 use Rattle.std.proofs.lemmas.Int.{ints}
 use Rattle.std.proofs.lemmas.List.{map-append, append-nil, append_assoc}
 use Rattle.std.proofs.lemmas.List.Elements.{Contains-append_right}
@@ -24,8 +24,8 @@ use Rattle.diagram.specs.Parts.{sums_of}
 use Rattle.outside.specs.declared.errors.NoMemory.{NoMemory}
 use Rattle.tx_graph.specs.Dropped.{AreOfClusters, ArePaidBySize, IsBlockOf}
 use Rattle.tx_graph.specs.Kept.{Kept, StandsFor, MakesStep}
-use Rattle.block_builder.specs.Building.{is_marked, AddsMark, TellsLeftOut}
-use Rattle.block_builder.specs.Drafts.{took, size_of, MayTake, AreMarked, Tells, IsDraft, Drafts, Offers, IsFilled, ArePicked}
+use Rattle.block_builder.specs.Building.{is_marked, AddsMark}
+use Rattle.block_builder.specs.Drafts.{took, size_of, MayTake, Tells, IsDraft, Drafts, Offers, IsFilled, ArePicked}
 use Rattle.block_builder.specs.declared.draft.Draft.{Draft}
 use Rattle.block_builder.proofs.Marking.{Entry, shown_in, left_out, took_one, took_none, size_one, marked_none, marked_more, not_taken, none_fit, left_none, left_taken, left_passed, left_marked, shown_left_out, is_block}
 

@@ -1,5 +1,5 @@
 -- What a step past a part does.
-use Rattle.std.proofs.Common.{◌≡◌, ◌≢◌, ◌↔◌, ℕ, ◌⊎◌, inl, inr, Bool, true, false, true≢false, List, [], ◌∷◌, ◌++◌, map, Contains, Option, Some, None, refl, sym, ap, ◌∙◌, subst, ◌<◌, length, length-append, arith}
+use Rattle.std.proofs.Common.{◌≡◌, ◌≢◌, inl, inr, Bool, true, false, true≢false, List, [], ◌∷◌, ◌++◌, map, Contains, Option, Some, None, refl, sym, ap, ◌∙◌, subst, ◌<◌, length, length-append, arith}
 use Rattle.std.specs.Prelude.{option_map, option_to_list}
 use Rattle.std.proofs.lemmas.List.{map-append, append_assoc}
 use Rattle.std.proofs.lemmas.List.Elements.{Contains-append_left, Contains-append_right}
@@ -7,7 +7,6 @@ use Rattle.std.proofs.lemmas.Option.{same_Some}
 use Rattle.lists.proofs.Cases.{some_none}
 use Rattle.lists.proofs.Entries.{Contains-head, none_in_empty, first_of, not_empty, map-Contains, Contains-map}
 use Rattle.graphs.specs.Certificates.{Part}
-use Rattle.graphs.specs.Graphs.{Graph}
 use Rattle.graph_model.specs.Blocks.{ShareComponent}
 use Rattle.graph_model.specs.States.{State}
 use Rattle.cluster_store.specs.Stores.{Shown}

@@ -1,5 +1,5 @@
 -- A block that is being filled: parts in their order, each with the mark whether it is taken.
-use Rattle.std.specs.Prelude.{◌≡◌, ◌↔◌, ℕ, ℤ, ◌+◌, ◌*◌, ◌≤◌, unsigned_abs, Bool, true, false, List, [], ◌∷◌, ◌++◌, map, sum_by, Contains}
+use Rattle.std.specs.Prelude.{◌≡◌, ◌↔◌, ℕ, ℤ, ◌+◌, ◌*◌, ◌≤◌, unsigned_abs, Bool, true, List, [], ◌∷◌, ◌++◌, map, sum_by, Contains}
 use Rattle.fee_rate.specs.declared.limits.TheConstants.{MAX_FEE}
 use Rattle.graphs.specs.Certificates.{Part}
 use Rattle.graphs.specs.Rates.{sum_of}

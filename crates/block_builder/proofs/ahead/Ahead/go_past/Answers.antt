@@ -1,5 +1,5 @@
 -- A part of a marked cluster is passed over.
-use Rattle.std.proofs.Common.{◌≡◌, true, sym, ◌∙◌}
+use Rattle.std.proofs.Common.{sym, ◌∙◌}
 use Rattle.cluster_store.specs.Walks.{shown_part}
 use Rattle.block_builder.proofs.Passing.{passed_more}
 use Rattle.block_builder.proofs.ahead.Ahead.go_past.Goals as goal

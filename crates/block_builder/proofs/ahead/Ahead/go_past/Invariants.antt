@@ -1,5 +1,5 @@
 -- the parts so far are of marked clusters
-use Rattle.std.proofs.Common.{◌≡◌, length}
+use Rattle.std.proofs.Common.{length}
 use Rattle.block_builder.proofs.Passing.{ArePassed}
 use Rattle.block_builder.proofs.ahead.Ahead.go_past.Given as goal
 

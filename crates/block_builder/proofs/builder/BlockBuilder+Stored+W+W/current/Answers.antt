@@ -1,5 +1,5 @@
 -- What is ahead is offered.
-use Rattle.std.proofs.Common.{◌≡◌, [], ◌∷◌, Some, None, refl, sym, ap, ◌∙◌}
+use Rattle.std.proofs.Common.{[], Some, None, refl, sym, ap, ◌∙◌}
 use Rattle.lists.proofs.Cases.{some_none}
 use Rattle.cluster_store.specs.Walks.{shown_part}
 use Rattle.block_builder.specs.Building.{Building}

@@ -1,5 +1,5 @@
 -- What a filled draft picks is the block.
-use Rattle.std.proofs.Common.{◌≡◌, List, ◌∙◌, subst}
+use Rattle.std.proofs.Common.{List, ◌∙◌, subst}
 use Rattle.graphs.specs.Certificates.{Part}
 use Rattle.graph_model.specs.Commands.{Block}
 use Rattle.graph_model.specs.Replies.{Built, block_reply}

@@ -1,5 +1,5 @@
 -- Nothing is gone past at the start.
-use Rattle.std.proofs.Common.{◌≡◌, List, map, sym, ap, ◌∙◌, subst}
+use Rattle.std.proofs.Common.{List, map, sym, ap, ◌∙◌, subst}
 use Rattle.cluster_store.specs.Stores.{Shown}
 use Rattle.tx_graph.specs.Dropped.{AreOfClusters}
 use Rattle.block_builder.proofs.Calls.{building_of}

@@ -1,5 +1,5 @@
 -- The parts of a walk are offered, for as long as one may fit.
-use Rattle.std.proofs.Common.{◌≡◌, ◌<◌, arith}
+use Rattle.std.proofs.Common.{◌<◌, arith}
 use Rattle.cluster_store.specs.Walks.{shown_part}
 use Rattle.block_builder.proofs.Drafting.{next_paid, filled_early}
 use Rattle.block_builder.proofs.draft.Draft.fill.Goals as goal

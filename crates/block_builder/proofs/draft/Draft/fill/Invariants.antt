@@ -1,7 +1,5 @@
 -- the parts so far are those of the draft
-use Rattle.std.proofs.Common.{◌≡◌, Bool, List, ◌++◌, length}
-use Rattle.cluster_store.specs.Stores.{Shown}
-use Rattle.block_builder.specs.Drafts.{Drafts}
+use Rattle.std.proofs.Common.{◌≡◌, length}
 use Rattle.block_builder.proofs.Drafting.{IsSoFar}
 use Rattle.block_builder.proofs.draft.Draft.fill.Given as goal
 

@@ -1,4 +1,4 @@
-use Rattle.std.proofs.Common.{◌≡◌, ℕ, pos, Bool, List, [], sym, subst₂}
+use Rattle.std.proofs.Common.{ℕ, pos, Bool, List, [], sym, subst₂}
 use Rattle.block_builder.specs.Drafts.{IsDraft}
 use Rattle.block_builder.proofs.Drafting.{drafts_none}
 use Rattle.block_builder.proofs.draft.Draft.new.Goals as goal

@@ -1,11 +1,10 @@
 -- One part more.
-use Rattle.std.proofs.Common.{◌≡◌, ◌<◌, ◌≤◌, ◌+◌, ◌-◌, ◌*◌, ◌+ℤ◌, ℕ, ℤ, true, false, List, ◌∷◌, ◌++◌, unsigned_abs, rules, sym, ap, ◌∙◌, subst, arith, SFits, to_z, of_z}
+use Rattle.std.proofs.Common.{◌≡◌, ◌<◌, ◌≤◌, ◌+◌, ◌-◌, ◌*◌, ◌+ℤ◌, ℤ, true, false, unsigned_abs, rules, sym, ap, ◌∙◌, subst, arith, SFits, to_z, of_z}
 use Rattle.std.specs.Int.{w64, w128}
 use Rattle.std.proofs.lemmas.Int.{to_z-of_z}
 use Rattle.fee_rate.specs.declared.limits.TheConstants.{MAX_FEE}
 use Rattle.cluster_store.specs.Walks.{shown_part}
 use Rattle.block_builder.specs.Building.{is_marked}
-use Rattle.block_builder.specs.Drafts.{Drafts}
 use Rattle.block_builder.proofs.Drafting.{drafts_passed, drafts_large, drafts_taken, fee_within, ok_then}
 use Rattle.block_builder.proofs.draft.Draft.offer.Goals as goal
 
