@@ -5,6 +5,9 @@
 //! once. What changes in the top level leaves main as it is while there is a staging, at the cost of the clusters that change: one
 //! that main keeps isn't changed, another takes its place under a number of its own. A `NameBook` has the names of both
 //! levels: which share a cluster of main, and which staging touched.
+//!
+//! Where the limits let dependencies pass them, a cluster may be over them. It is kept without an order, and its level has none as long as
+//! it stands there. A change of it solves nothing; what comes within the limits is solved once.
 #![tactic(auto)]
 
 mod changes;
