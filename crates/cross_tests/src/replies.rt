@@ -421,7 +421,7 @@ fn close_line(alloc: Global, state: &mut u64) -> Result<String, AllocError> {
     let level = if draw(state, 2) == 0 { "main" } else { "top" };
     match draw(state, 24) {
         0..6 => {
-            let size = 1 + draw(state, 9);
+            let size = 1 + draw(state, 9) % 9;
             format!(in alloc; "add {one} {size} {size}")
         }
         6..11 => format!(in alloc; "dep {one} {other}"),

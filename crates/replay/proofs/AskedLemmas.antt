@@ -1,6 +1,6 @@
 -- Words ask for one thing, so what is done for it is all that the clauses of the top call say.
-use Rattle.std.proofs.Common.{◌≡◌, ℕ, List, sym, ap, ◌∙◌}
-use Rattle.graph_model.specs.CommandLines.{Asked, Replays, Checks, Loads, Generates}
+use Rattle.std.proofs.Common.{◌≡◌, ℕ, List}
+use Rattle.graph_model.specs.CommandLines.{Replays, Checks, Generates}
 use Rattle.command_line.specs.Words.{AsksFor}
 use Rattle.command_line.proofs.AskLemmas.{asks_once}
 

@@ -1,5 +1,5 @@
 -- Commands that a number gives, answered one after another.
-use Rattle.std.proofs.Common.{◌≡◌, ◌≢◌, ℕ, ◌+◌, ◌-◌, ◌<◌, ◌≤◌, suc, List, [], ◌∷◌, ◌++◌, refl, sym, ap, subst, arith, append_assoc, append-nil, true, false}
+use Rattle.std.proofs.Common.{◌≡◌, ◌≢◌, ℕ, ◌+◌, ◌-◌, ◌<◌, ◌≤◌, suc, List, [], ◌∷◌, ◌++◌, refl, sym, ap, subst, arith, append_assoc, append-nil, false}
 use Rattle.wire.specs.declared.line.Line.{Line}
 use Rattle.wire.specs.declared.line.Line.TheVariants as lines
 use Rattle.wire.specs.Readings.{meaning_of}

@@ -1,5 +1,5 @@
 -- Readings of an order where the level is oversized.
-use Rattle.std.proofs.Common.{◌≡◌, true, false, refl, sym, inl, ◌∙◌, Bool, Some, ◌↔◌, true≢false}
+use Rattle.std.proofs.Common.{◌≡◌, false, refl, sym, inl, ◌∙◌, Bool, Some, ◌↔◌, true≢false}
 use Rattle.std.specs.Prelude.{IsTrue}
 use Rattle.graphs.specs.declared.names.Level.{Level}
 use Rattle.graph_model.specs.declared.names.Refusal.TheVariants.{Oversized}

@@ -4,7 +4,7 @@ use Rattle.graph_model.specs.Commands.{Block}
 use Rattle.graph_model.specs.Replies.{Built, Refused, picked_sum}
 use Rattle.graph_model.specs.declared.names.Refusal.TheVariants.{Memory}
 use Rattle.tx_graph.specs.Kept.{Kept, MakesStep}
-use Rattle.replay.proofs.RefusedLemmas.{refused_over, not_so}
+use Rattle.replay.proofs.RefusedLemmas.{refused_over}
 use Rattle.replay.proofs.commands.fill_block.Goals as goal
 
 pub returns-in-Ok : goal.returns-in-Ok

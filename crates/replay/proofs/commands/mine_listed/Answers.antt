@@ -1,4 +1,4 @@
-use Rattle.std.proofs.Common.{◌≡◌, ℕ, List, subst}
+use Rattle.std.proofs.Common.{ℕ, List, subst}
 use Rattle.graph_model.specs.Commands.{Mine}
 use Rattle.graph_model.specs.Replies.{change_reply}
 use Rattle.tx_graph.specs.Kept.{MakesStep}
