@@ -26,9 +26,10 @@ use Rattle.graph_model.specs.States.{Entry, State}
 use Rattle.graph_model.specs.Commands.{Command, SetLimits, Add, Dep, SetFee, Remove, Stage, Commit, Abort, Settle}
 use Rattle.graph_model.specs.Refusals.{First, FirstAt, NoRefusal}
 use Rattle.graph_model.specs.Replies.{Reply, Refused, Done, Settled}
+use Rattle.graph_model.specs.Steps.{Step}
 use Rattle.tx_graph.specs.Additions.{AddRefusalIs, CountsLive}
 use Rattle.levels.specs.Joins.{DepRefusalIs, JoinsTooMany, JoinsTooLarge}
-use Rattle.tx_graph.specs.Kept.{Kept, StandsFor, MakesStep, entry_of}
+use Rattle.tx_graph.specs.Kept.{Kept, StandsFor, Leads, MakesStep, entry_of}
 use Rattle.levels.specs.Levels.{OneLevel, Levels, HavePicks, AddsName, ChangesTop, SetsFeeIn, level_at, IsLive, IsWithin}
 use Rattle.levels.specs.Levels as levels
 use Rattle.tx_graph.specs.Sound.{IsSound}
@@ -77,11 +78,15 @@ same_levels most begun old new value command reply same is step =
     from_view (kept_of most begun old) value (kept_of most begun new) command reply is
     (subst (λ (l : Levels). MakesStep (kept_of most begun old) (kept_of most begun l) command reply) (sym same) step)
 
--- a graph after a step is sound
-pub sound_after : (old new : Kept) (command : Command) (reply : Reply) → IsSound old → HavePicks new.levels → MakesStep old new command reply → IsSound new
-sound_after old new command reply sound picked step =
-    let next = step sound.stands.0 sound.stands.1 in
+-- a graph that a sound one leads to is sound
+pub sound_led : (old new : Kept) (Relates : State → State → Type 0) → IsSound old → HavePicks new.levels → Leads old new Relates → IsSound new
+sound_led old new Relates sound picked leads =
+    let next = leads sound.stands.0 sound.stands.1 in
     record { picked = picked; stands = (next.0, next.1) }
+
+-- such as one after a step
+pub sound_after : (old new : Kept) (command : Command) (reply : Reply) → IsSound old → HavePicks new.levels → MakesStep old new command reply → IsSound new
+sound_after old new command reply = sound_led old new (λ state next. Step state command reply next)
 
 -- its limits are in range
 pub in_range : (kept : Kept) → IsSound kept → AreInRange kept.most (bounds_of kept.levels.limits)

@@ -1,24 +1,21 @@
 -- A name is dropped.
 use Rattle.std.proofs.Common.{◌≡◌, ◌≢◌, ℕ, true, not, ◌&&◌, nat_eq, sym, refl, ap, ap₂, ◌∙◌, None, Some, eq-eqb, true≢false}
-use Rattle.std.specs.FinMap as finmap
 use Rattle.std.proofs.lemmas.Bool.{and_parts, and_from}
-use Rattle.graphs.specs.declared.names.Level.{Level}
-use Rattle.graphs.specs.declared.names.Level.TheVariants.{Main, Top}
-use Rattle.graphs.specs.Closures.{is_member, is_ancestor, rate_of, DropsPlace}
+use Rattle.graphs.specs.declared.names.Level.TheVariants.{Top}
+use Rattle.graphs.specs.Closures.{is_member, is_ancestor, DropsPlace}
 use Rattle.graphs.specs.Graphs.{Graph}
 use Rattle.graphs.specs.Removals.{IsWithout}
 use Rattle.graphs.proofs.ClosingLemmas.{closes_like, closes_without}
 use Rattle.graphs.proofs.RemovalLemmas.{some_without, graph_left}
 use Rattle.graph_model.specs.Commands.{Remove}
-use Rattle.graph_model.specs.Changes.{begun}
 use Rattle.graph_model.specs.Replies.{Done}
-use Rattle.graph_model.specs.States.{PlainState, level_of, with_top}
+use Rattle.graph_model.specs.States.{level_of}
 use Rattle.levels.specs.Levels.{OneLevel, HavePicks, level_at}
-use Rattle.tx_graph.specs.Kept.{Kept, IsGraphOf, StandsPlainly, MakesStep, entry_of}
+use Rattle.tx_graph.specs.Kept.{Kept, IsGraphOf, MakesStep, entry_of}
 use Rattle.tx_graph.proofs.Standing.{Meets, graph_at}
 use Rattle.tx_graph.proofs.Picked.{AreSameLevel, AcceptsAll, steps_accepted}
-use Rattle.tx_graph.proofs.Tables.{forgotten, stands_forgotten, forgets}
-use Rattle.tx_graph.proofs.Tops.{AreTopped, HasGraphs, rates_topped, keeps_topped, graphs_topped, table_is}
+use Rattle.tx_graph.proofs.Tables.{left_topped}
+use Rattle.tx_graph.proofs.Tops.{AreTopped, keeps_topped}
 
 module _ (was top : OneLevel) (id : ℕ) (drops : DropsPlace was.graph top.graph id) where
   -- a name that is left isn't the one, and was there
@@ -59,41 +56,15 @@ module _ (old new : Kept) (id : ℕ) (most : new.most ≡ old.most) (begins : ne
   abbrev was : OneLevel
   was = level_at old.levels Top
 
-  module _ (state : PlainState) (stands : StandsPlainly old state) where
-    -- the names that are left have the fees and sizes that they had
-    names_left : (level : Level) (q : ℕ) → is_member (level_at new.levels level).graph q ≡ true
-        → finmap.get state.table q ≡ Some (entry_of (rate_of (level_at new.levels level).graph q))
-    names_left = rates_topped old.levels new.levels top topped state.table
-        (λ q member.
-        let left = was_left was top id drops q member in
-        stands.table.names Top q left.1 ∙ ap (λ r. Some (entry_of r)) (sym (drops.rates q left.0)))
-        (λ _ _. stands.table.names Main)
-
-    module _ (rest : Graph) (without : IsWithout (level_of state Top) id rest) where
-      abbrev mid : PlainState
-      mid = with_top (begun state) rest
-
-      graphs_left : HasGraphs new mid
-      graphs_left = graphs_topped old new top most begins topped state stands state.table rest
-          (graph_dropped was top id drops (level_of state Top) rest (graph_at old state stands Top) without)
-
-      same_table : mid.table ≡ state.table
-      same_table = table_is old new top most begins topped state stands state.table rest
-          (graph_dropped was top id drops (level_of state Top) rest (graph_at old state stands Top) without)
-
-      names_mid : (level : Level) (q : ℕ) → is_member (level_at new.levels level).graph q ≡ true
-          → finmap.get mid.table q ≡ Some (entry_of (rate_of (level_at new.levels level).graph q))
-      names_mid level q member = ap (λ t. finmap.get t q) same_table ∙ names_left level q member
-
   accepts_dropped : AcceptsAll old new (Remove id) Done
   accepts_dropped state stands =
-      let rest = some_without (level_of state Top) id (graph_at old state stands Top).valid in
-      let graphs = graphs_left state stands rest.0 rest.1 in
-      let names = names_mid state stands rest.0 rest.1 in (
-        forgotten new (with_top (begun state) rest.0) graphs names,
-        stands_forgotten new (with_top (begun state) rest.0) graphs names,
-        λ picks. record { answer = refl; change = (rest.0, rest.1, forgets new (with_top (begun state) rest.0) graphs names) },
-      )
+      let graph = graph_at old state stands Top in
+      let rest = some_without (level_of state Top) id graph.valid in
+      let next = left_topped old new top most begins topped state stands rest.0 (graph_dropped was top id drops (level_of state Top) rest.0 graph rest.1)
+      (λ q member.
+      let left = was_left was top id drops q member in
+      stands.table.names Top q left.1 ∙ ap (λ r. Some (entry_of r)) (sym (drops.rates q left.0))) in
+      (next.0, next.1, λ picks. record { answer = refl; change = (rest.0, rest.1, next.2) })
 
   pub steps_dropped : Meets old (Remove id) None → HavePicks new.levels → MakesStep old new (Remove id) Done
   steps_dropped none picked =

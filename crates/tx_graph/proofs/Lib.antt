@@ -11,6 +11,7 @@ mod Paired
 mod Paid
 mod Dropped
 mod Lost
+mod Lessened
 mod Limited
 mod Staged
 mod Unchanged

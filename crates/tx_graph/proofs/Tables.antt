@@ -3,14 +3,15 @@ use Rattle.std.proofs.Common.{◌≡◌, ℕ, Bool, true, cond, ◌||◌, sym, r
 use Rattle.std.specs.FinMap as finmap
 use Rattle.std.proofs.lemmas.Bool.{false_from_ne_true, or_cases, or_left, or_right}
 use Rattle.graphs.specs.declared.names.Level.{Level}
-use Rattle.graphs.specs.declared.names.Level.TheVariants.{Top}
+use Rattle.graphs.specs.declared.names.Level.TheVariants.{Main, Top}
 use Rattle.graphs.specs.Closures.{is_member, rate_of}
-use Rattle.graph_model.specs.States.{PlainState, Table}
-use Rattle.graph_model.specs.Changes.{IsKept, Forgets}
-use Rattle.levels.specs.Levels.{Levels, level_at, IsLive}
-use Rattle.tx_graph.specs.Kept.{Kept, HasRates, entry_of}
+use Rattle.graphs.specs.Graphs.{Graph}
+use Rattle.graph_model.specs.States.{PlainState, Table, with_top}
+use Rattle.graph_model.specs.Changes.{begun, IsKept, Forgets}
+use Rattle.levels.specs.Levels.{OneLevel, Levels, level_at, IsLive}
+use Rattle.tx_graph.specs.Kept.{Kept, HasRates, IsGraphOf, StandsPlainly, entry_of}
 use Rattle.tx_graph.proofs.Standing.{StandsBarely, top_graph, live_at}
-use Rattle.tx_graph.proofs.Tops.{HasGraphs, with_rates}
+use Rattle.tx_graph.proofs.Tops.{AreTopped, HasGraphs, with_rates, rates_topped, graphs_topped, table_is}
 
 -- ---- names in no level are forgotten
 
@@ -78,3 +79,25 @@ module _ (kept : Kept) (state : PlainState)
     kept = λ q here. left_live kept.levels state.table q ((kept_live q).0 here);
     dropped = λ q none. left_none kept.levels state.table q (λ live. none ((kept_live q).1 live));
   }
+
+-- ---- names leave the top level
+
+-- A graph stands for a state with another graph at the top, of names that have their fees and sizes already, without the names that are in no
+-- level then.
+module _ (old new : Kept) (top : OneLevel) (most : new.most ≡ old.most) (begins : new.begun ≡ true) (topped : AreTopped old.levels top new.levels)
+    (state : PlainState) (stands : StandsPlainly old state) (rest : Graph) (of : IsGraphOf top rest)
+    (rates : (q : ℕ) → is_member top.graph q ≡ true → finmap.get state.table q ≡ Some (entry_of (rate_of top.graph q))) where
+  abbrev mid : PlainState
+  mid = with_top (begun state) rest
+
+  graphs_mid : HasGraphs new mid
+  graphs_mid = graphs_topped old new top most begins topped state stands state.table rest of
+
+  names_mid : (level : Level) (q : ℕ) → is_member (level_at new.levels level).graph q ≡ true
+      → finmap.get mid.table q ≡ Some (entry_of (rate_of (level_at new.levels level).graph q))
+  names_mid level q member =
+      ap (λ t. finmap.get t q) (table_is old new top most begins topped state stands state.table rest of)
+      ∙ rates_topped old.levels new.levels top topped state.table rates (λ _ _. stands.table.names Main) level q member
+
+  pub left_topped : (next : PlainState) × StandsBarely new next × Forgets mid next
+  left_topped = (forgotten new mid graphs_mid names_mid, stands_forgotten new mid graphs_mid names_mid, forgets new mid graphs_mid names_mid)

@@ -1,15 +1,17 @@
--- Parts that are dropped, and parts with the numbers of their clusters.
-use Rattle.std.specs.Prelude.{◌≡◌, ◌↔◌, ◌⊎◌, ℕ, ◌*◌, ◌≤◌, unsigned_abs, List, [], Contains}
+-- Parts and sets of names that are dropped, and parts with the numbers of their clusters.
+use Rattle.std.specs.Prelude.{◌≡◌, ◌↔◌, ◌⊎◌, ℕ, ◌*◌, ◌≤◌, true, unsigned_abs, List, [], Contains}
 use Rattle.fee_rate.specs.declared.limits.TheConstants.{MAX_FEE}
 use Rattle.graphs.specs.declared.names.Level.TheVariants.{Main}
+use Rattle.graphs.specs.Closures.{Closure, is_ancestor}
 use Rattle.graphs.specs.Graphs.{Graph}
 use Rattle.graphs.specs.Certificates.{Part}
 use Rattle.graph_model.specs.declared.names.Picked.{Picked}
 use Rattle.graph_model.specs.declared.names.Refusal.{Refusal}
 use Rattle.graph_model.specs.declared.names.Refusal.TheVariants.{Empty, Memory, Oversized}
 use Rattle.graph_model.specs.Blocks.{IsBlock, ShareComponent}
-use Rattle.graph_model.specs.Changes.{IsLast}
+use Rattle.graph_model.specs.Changes.{DropsFromTop, IsLast}
 use Rattle.graph_model.specs.States.{State}
+use Rattle.graph_model.specs.Steps.{KeepsPicks}
 use Rattle.cluster_store.specs.Stores.{Shown}
 use Rattle.levels.specs.Levels.{Levels, IsBest, IsWithin}
 use Rattle.levels.specs.Oversize.{IsOversized}
@@ -46,3 +48,12 @@ IsBlockOf kept size taken = (state : State) → StandsFor kept state → IsBlock
 -- no part pays more than MAX_FEE satoshis for each virtual byte, nor less than as many below 0
 abbrev pub ArePaidBySize : List Part → Type 0
 ArePaidBySize parts = (part : Part) → Contains parts part → unsigned_abs part.rate.fee ≤ MAX_FEE * part.rate.size
+
+-- Every descendant of a listed name is listed too.
+abbrev pub HasDescendants : Closure → List ℕ → Type 0
+HasDescendants graph ids = (a d : ℕ) → Contains ids a → is_ancestor graph a d ≡ true → Contains ids d
+
+-- These names are dropped from the top level with their pairs, and a level that this leaves as it was keeps its pick. It is what `trim` does with
+-- the names that trimming drops.
+abbrev pub DropsSet : List ℕ → State → State → Type 0
+DropsSet ids old new = DropsFromTop old.plain ids new.plain × KeepsPicks old new

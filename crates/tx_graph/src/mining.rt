@@ -1,14 +1,19 @@
-//! Transactions that leave main: a mined set, and the last chunk.
-ghost use Rattle.std.specs.Prelude.{◌≡◌, ◌≢◌, [], IfErr, MatchResult};
+//! Transactions that leave a level several at once: a mined set and the last chunk leave main, and a set with all its descendants leaves the
+//! top level.
+ghost use Rattle.std.specs.Prelude.{◌≡◌, ◌≢◌, ℕ, true, [], Contains, IfErr, IfOk, MatchResult};
+ghost use Rattle.lists.specs.Distinct.{AreDistinct};
 ghost use Rattle.graphs.specs.Certificates.{Part};
+ghost use Rattle.graphs.specs.Closures.{is_member};
+ghost use Rattle.graphs.specs.declared.names.Level.TheVariants.{Top};
 ghost use Rattle.graph_model.specs.declared.names.Refusal.TheVariants.{Memory};
 ghost use Rattle.graph_model.specs.Changes.{IsLast};
 ghost use Rattle.graph_model.specs.Commands.{Mine, Evict};
 ghost use Rattle.graph_model.specs.Replies.{change_reply, evicted_reply};
 ghost use Rattle.levels.specs.Lefts.{DropsWithin};
+ghost use Rattle.levels.specs.Levels.{level_at};
 ghost use Rattle.levels.specs.Stays.{AllStay};
-ghost use Rattle.tx_graph.specs.Dropped.{IsLastOf, LastFails};
-ghost use Rattle.tx_graph.specs.Kept.{MakesStep};
+ghost use Rattle.tx_graph.specs.Dropped.{DropsSet, HasDescendants, IsLastOf, LastFails};
+ghost use Rattle.tx_graph.specs.Kept.{Leads, MakesStep};
 
 use crate::graph::TxGraph;
 use fee_rate::Sum;
@@ -90,6 +95,38 @@ impl<const W: usize> TxGraph<W> {
         }
         self.begun = true;
         Ok(picked)
+    }
+
+    /// Drops a set of transactions from the top level, in any order, with their dependencies. Each is in the top level, stands once in the
+    /// list, and has all its descendants there in the list. The others keep the ancestors that they have among them. While a staging is
+    /// open, main stays as it was. An empty list changes no level, but the limits can't be set after it, as after any change.
+    ///
+    /// The solver takes at most the sum of 2·(n+2)^5 steps over the clusters of n transactions that are left of the listed
+    /// transactions' clusters and are within the limits, each cluster once.
+    ///
+    /// # Errors
+    ///
+    /// Answers [`Refusal::Memory`], and leaves the graph as it was, where there is no memory.
+    pub fn drop_set<L: Ledger>(&mut self, ids: &[TxId], steps: &mut Steps<L>) -> Result<(), Refusal>
+        requires once { AreDistinct ids.now }
+        requires live { (id : ℕ) → Contains ids.now id → is_member (level_at self.old.levels Top).graph id ≡ true }
+        requires descendants { HasDescendants (level_at self.old.levels Top).graph ids.now }
+        ensures drops { IfOk result (λ _. Leads self.old self.new (DropsSet ids.now)) }
+        ensures err { IfErr result (λ why. (why ≡ Memory) × (self.new ≡ self.old)) }
+        ensures stays { AllStay self.old.levels self.new.levels }
+        ensures additions { self.new.levels.issued ≡ self.old.levels.issued }
+        ensures steps { DropsWithin self.old.levels.limits ids.now (level_at self.old.levels Top).graph steps.old steps.new }
+    {
+        // a level that loses nothing keeps its pick
+        if ids.is_empty() {
+            self.begun = true;
+            return Ok(());
+        }
+        if self.levels.drop_names(ids, steps).is_err() {
+            return Err(Refusal::Memory);
+        }
+        self.begun = true;
+        Ok(())
     }
 }
 
