@@ -203,7 +203,7 @@ const OVERSIZED: [Row; 6] = [
     (
         "limits 2 9 10 defer\nadd 1 1 10\nadd 1 5 5\nadd 2 5 4\ndep 1 2\ndiagram main\nadd 3 1 1\ndep 3 1\ndiagram main\n\
          proof top\ndescendants 1 top\nchunk 9\nchunk 1\nbefore 1 9\nbefore 1 2\nblock 9\nlimits 64 9 9\n",
-        "ok\nrefused clustersize 10\nok\nok\nok\npoint 0 0\npoint 4 5\npoint 9 10\nend\nok\nok\nrefused oversized\n\
+        "ok\nrefused clustersize 10\nok\nok\nok\npoint 0 0\npoint 9 10\nend\nok\nok\nrefused oversized\n\
          refused oversized\nrefused oversized\nrefused unknown 9\nrefused oversized\nrefused unknown 9\nrefused oversized\n\
          refused oversized\nrefused late\n",
     ),
@@ -221,7 +221,7 @@ const OVERSIZED: [Row; 6] = [
     (
         "limits 129 1 1 defer\nlimits 1 1 1  defer\nlimits 1 1 1 defer defer\nlimits 1 1 1 DEFER\nlimits 1 1 1 defer\nlimits 1 1 2\n\
          add 1 0 1\nadd 2 0 1\nlimits 1 1 1 defer\n",
-        "refused range\nrefused syntax\nrefused syntax\nrefused syntax\nok\nok\nok\nok\nrefused late\n",
+        "refused range\nrefused syntax\nrefused syntax\nrefused syntax\nok\nrefused late\nok\nrefused full\nrefused late\n",
     ),
 ];
 

@@ -505,7 +505,7 @@ fn a_session_replies_as_the_plain_lists_do_where_limits_are_passed(
         let seen = agree_oversized(&rt, rt.alloc(), &mut session, &mut lists, *seed, limits);
         session.close();
         let (over, within) = seen?;
-        assert!(rt; over > 500 && within > 500, "{over} and {within}");
+        assert!(rt; over > 300 && within > 300, "{over} and {within}");
     }
     Ok(())
 }
