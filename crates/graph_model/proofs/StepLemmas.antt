@@ -117,7 +117,7 @@ valid_removed old new id valid (graph, without, forgets) =
 
 -- ---- `trim`
 
-valid_lessened : (old new : PlainState) (ids : List ℕ) → IsValid old → DropsFromTop old ids new → IsValid new
+pub valid_lessened : (old new : PlainState) (ids : List ℕ) → IsValid old → DropsFromTop old ids new → IsValid new
 valid_lessened old new [] valid same = subst IsValid (sym same) (valid_begun old valid)
 valid_lessened old new (id ∷ ids) valid (graph, without, forgets) =
     let top : Graph = level_of old Top in

@@ -2,7 +2,8 @@
 use Rattle.std.specs.Prelude.{◌≡◌, ◌↔◌, ◌⊎◌, ℕ, ◌*◌, ◌≤◌, true, unsigned_abs, List, [], Contains}
 use Rattle.fee_rate.specs.declared.limits.TheConstants.{MAX_FEE}
 use Rattle.graphs.specs.declared.names.Level.TheVariants.{Main}
-use Rattle.graphs.specs.Closures.{Closure, is_ancestor}
+use Rattle.lists.specs.Distinct.{AreDistinct}
+use Rattle.graphs.specs.Closures.{Closure, is_ancestor, is_member}
 use Rattle.graphs.specs.Graphs.{Graph}
 use Rattle.graphs.specs.Certificates.{Part}
 use Rattle.graph_model.specs.declared.names.Picked.{Picked}
@@ -52,6 +53,12 @@ ArePaidBySize parts = (part : Part) → Contains parts part → unsigned_abs par
 -- Every descendant of a listed name is listed too.
 abbrev pub HasDescendants : Closure → List ℕ → Type 0
 HasDescendants graph ids = (a d : ℕ) → Contains ids a → is_ancestor graph a d ≡ true → Contains ids d
+
+-- Names of a level, each once, that may go together: they leave nobody without an ancestor.
+pub record MayGo (graph : Closure) (ids : List ℕ) : Type 0 where
+  pub once : AreDistinct ids
+  pub live : (id : ℕ) → Contains ids id → is_member graph id ≡ true
+  pub descendants : HasDescendants graph ids
 
 -- These names are dropped from the top level with their pairs, and a level that this leaves as it was keeps its pick. It is what `trim` does with
 -- the names that trimming drops.

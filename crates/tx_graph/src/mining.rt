@@ -1,9 +1,7 @@
 //! Transactions that leave a level several at once: a mined set and the last chunk leave main, and a set with all its descendants leaves the
 //! top level.
-ghost use Rattle.std.specs.Prelude.{◌≡◌, ◌≢◌, ℕ, true, [], Contains, IfErr, IfOk, MatchResult};
-ghost use Rattle.lists.specs.Distinct.{AreDistinct};
+ghost use Rattle.std.specs.Prelude.{◌≡◌, ◌≢◌, [], IfErr, IfOk, MatchResult};
 ghost use Rattle.graphs.specs.Certificates.{Part};
-ghost use Rattle.graphs.specs.Closures.{is_member};
 ghost use Rattle.graphs.specs.declared.names.Level.TheVariants.{Top};
 ghost use Rattle.graph_model.specs.declared.names.Refusal.TheVariants.{Memory};
 ghost use Rattle.graph_model.specs.Changes.{IsLast};
@@ -12,7 +10,7 @@ ghost use Rattle.graph_model.specs.Replies.{change_reply, evicted_reply};
 ghost use Rattle.levels.specs.Lefts.{DropsWithin};
 ghost use Rattle.levels.specs.Levels.{level_at};
 ghost use Rattle.levels.specs.Stays.{AllStay};
-ghost use Rattle.tx_graph.specs.Dropped.{DropsSet, HasDescendants, IsLastOf, LastFails};
+ghost use Rattle.tx_graph.specs.Dropped.{DropsSet, IsLastOf, LastFails, MayGo};
 ghost use Rattle.tx_graph.specs.Kept.{Leads, MakesStep};
 
 use crate::graph::TxGraph;
@@ -108,9 +106,7 @@ impl<const W: usize> TxGraph<W> {
     ///
     /// Answers [`Refusal::Memory`], and leaves the graph as it was, where there is no memory.
     pub fn drop_set<L: Ledger>(&mut self, ids: &[TxId], steps: &mut Steps<L>) -> Result<(), Refusal>
-        requires once { AreDistinct ids.now }
-        requires live { (id : ℕ) → Contains ids.now id → is_member (level_at self.old.levels Top).graph id ≡ true }
-        requires descendants { HasDescendants (level_at self.old.levels Top).graph ids.now }
+        requires { MayGo (level_at self.old.levels Top).graph ids.now }
         ensures drops { IfOk result (λ _. Leads self.old self.new (DropsSet ids.now)) }
         ensures err { IfErr result (λ why. (why ≡ Memory) × (self.new ≡ self.old)) }
         ensures stays { AllStay self.old.levels self.new.levels }

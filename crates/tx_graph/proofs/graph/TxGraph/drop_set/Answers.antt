@@ -7,10 +7,10 @@ use Rattle.graphs.specs.declared.names.Level.TheVariants.{Top}
 use Rattle.levels.specs.Lefts.{DropsWithin}
 use Rattle.levels.specs.Levels.{Levels, level_at}
 use Rattle.levels.specs.Stays.{AllStay}
-use Rattle.tx_graph.specs.Dropped.{DropsSet}
+use Rattle.tx_graph.specs.Dropped.{DropsSet, MayGo}
 use Rattle.tx_graph.specs.Kept.{Kept, Leads}
 use Rattle.tx_graph.proofs.Calls.{kept_of, sound_led, sound_still, when_ok, when_err}
-use Rattle.tx_graph.proofs.Lessened.{AreDroppable, drops_none, drops_set, some_listed}
+use Rattle.tx_graph.proofs.Lessened.{drops_none, drops_set, some_listed}
 use Rattle.tx_graph.proofs.Rooms.{levels_fit}
 use Rattle.tx_graph.proofs.Unchanged.{all_stay, within_one, not_larger, issued_topped}
 use Rattle.tx_graph.proofs.graph.TxGraph.drop_set.Goals as goal
@@ -48,7 +48,7 @@ pub invariant_of-self-2 : goal.invariant_of-self-2
 invariant_of-self-2 g c =
     let old = kept_of (64 * g.row.W) c.self.inside.begun c.self.inside.levels in
     let done = sym c.is_err.ensures.value ∙ c.if-is_err.false in
-    let meets = subst (AreDroppable c.args.ids.now) (sym c.self.view_is) (record { live = c.requires.live; descendants = c.requires.descendants }) in
+    let meets = subst (λ (k : Kept). MayGo (level_at k.levels Top).graph c.args.ids.now) (sym c.self.view_is) c.requires in
     let some = some_listed c.args.ids.now c.is_empty.result c.is_empty.ensures c.if-is_empty.false in
     sound_led old (kept_of (64 * g.row.W) true c.drop_names.new.self) (DropsSet c.args.ids.now) c.self.invariant c.drop_names.ensures.kept.0
     (drops_set (64 * g.row.W) c.self.inside.begun c.self.inside.levels c.drop_names.new.self c.args.ids.now some meets
@@ -57,7 +57,7 @@ invariant_of-self-2 g c =
 pub returns-clause-drops : goal.returns-clause-drops
 returns-clause-drops g c =
     let done = sym c.is_err.ensures.value ∙ c.if-is_err.false in
-    let meets = subst (AreDroppable c.args.ids.now) (sym c.self.view_is) (record { live = c.requires.live; descendants = c.requires.descendants }) in
+    let meets = subst (λ (k : Kept). MayGo (level_at k.levels Top).graph c.args.ids.now) (sym c.self.view_is) c.requires in
     let some = some_listed c.args.ids.now c.is_empty.result c.is_empty.ensures c.if-is_empty.false in
     subst (λ (k : Kept). Leads k (kept_of (64 * g.row.W) true c.drop_names.new.self) (DropsSet c.args.ids.now)) c.self.view_is
     (drops_set (64 * g.row.W) c.self.inside.begun c.self.inside.levels c.drop_names.new.self c.args.ids.now some meets
