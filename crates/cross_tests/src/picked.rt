@@ -30,7 +30,11 @@ pub fn evict<const W: usize>(
     lists: &mut Lists,
 ) -> Result<(), Fail> {
     if lists.over(Level::Main) {
-        let why = if lists.is_staged() { Refusal::Staging } else { Refusal::Oversized };
+        let why = if lists.is_staged() {
+            Refusal::Staging
+        } else {
+            Refusal::Oversized
+        };
         return refuses(rt, alloc, session, "evict", &why);
     }
     let text = order(rt, alloc, session)?;

@@ -148,15 +148,7 @@ impl<const W: usize> Shelves<W> {
         let one = self.at(first);
         let kept = one.names().len();
         let other = self.at(second);
-        let joined = one.joined(
-            self.alloc,
-            other,
-            parent,
-            child,
-            &self.limits,
-            work,
-            steps,
-        )?;
+        let joined = one.joined(self.alloc, other, parent, child, &self.limits, work, steps)?;
         let rest = Vec::new(self.alloc);
         Ok(News {
             rest,

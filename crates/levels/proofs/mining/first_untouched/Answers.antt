@@ -39,8 +39,8 @@ loop-id-preserved g c =
     let same = same_lacks c.args.rings.now (slice_index c.args.ids.now c.loop-id.id-index) c.loop-id.shelves c.args.shelves.now c.loop-id.invariant.same in
     record {
       none =
-        none_here (LacksTouched (graph_of (view_of Main c.args.shelves.now)) c.args.rings.now) c.args.ids.now c.loop-id.id-index
-        c.loop-id.invariant.none c.loop-id-test.true (λ lacks. true≢false (sym (c.lacks_touched.ensures.lacks.1 (same.1 lacks)) ∙ c.if-lacks_touched.false));
+          none_here (LacksTouched (graph_of (view_of Main c.args.shelves.now)) c.args.rings.now) c.args.ids.now c.loop-id.id-index
+          c.loop-id.invariant.none c.loop-id-test.true (λ lacks. true≢false (sym (c.lacks_touched.ensures.lacks.1 (same.1 lacks)) ∙ c.if-lacks_touched.false));
       same = c.lacks_touched.ensures.same ∙ c.loop-id.invariant.same;
     }
 

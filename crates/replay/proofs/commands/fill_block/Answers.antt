@@ -10,16 +10,16 @@ use Rattle.replay.proofs.commands.fill_block.Goals as goal
 pub returns-in-Ok : goal.returns-in-Ok
 returns-in-Ok g c = record {
   step =
-    subst (λ (k : Kept). MakesStep k k (Block c.args.size) (Built (picked_sum c.in-Ok.picked) c.in-Ok.picked.ids)) c.new.ensures.graph c.in-Ok.ensures.step;
+      subst (λ (k : Kept). MakesStep k k (Block c.args.size) (Built (picked_sum c.in-Ok.picked) c.in-Ok.picked.ids)) c.new.ensures.graph c.in-Ok.ensures.step;
 }
 
 pub returns : goal.returns
 returns g c =
-    record { step = subst (λ (k : Kept). MakesStep k k (Block c.args.size) (Refused Memory)) c.new.ensures.graph c.in-Err.ensures.step; }
+    record { step = subst (λ (k : Kept). MakesStep k k (Block c.args.size) (Refused Memory)) c.new.ensures.graph c.in-Err.ensures.step }
 
 pub returns-then-oversized : goal.returns-then-oversized
 returns-then-oversized g c = record {
   step =
-    refused_over c.args.graph.now (Block c.args.size) Main (λ state over. inl (over, refl))
-    (λ state stands. (c.oversized.ensures.state state stands).0 c.if-oversized.true);
+      refused_over c.args.graph.now (Block c.args.size) Main (λ state over. inl (over, refl))
+      (λ state stands. (c.oversized.ensures.state state stands).0 c.if-oversized.true);
 }

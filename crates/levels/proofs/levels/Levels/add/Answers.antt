@@ -35,11 +35,11 @@ add_name-requires g c =
                 subst (λ (fee : ℤ). IsRate (record { fee = fee; size = c.args.size })) (sym (to_z-of_z w64 c.args.fee c.ranges.fee)) c.requires.in_range,
                 (
                   subst (λ (l : Limits). c.args.size ≤ l.size) (limits_is g.row.W c.self.inside.issued c.self.inside.shelves c.args.self.now c.self.invariant.order c.self.view_is) c.requires.fits,
-                (
-                  few_named g.row.W c.self.inside.mains c.self.inside.tops c.self.inside.issued old rings c.self.invariant c.args.self.now c.self.view_is
-                      c.requires.few,
-                  omega (arith, c.requires.issued, c.self.invariant.issued, ap (λ (l : Levels). l.issued) c.self.view_is),
-                ),
+                  (
+                    few_named g.row.W c.self.inside.mains c.self.inside.tops c.self.inside.issued old rings c.self.invariant c.args.self.now c.self.view_is
+                        c.requires.few,
+                    omega (arith, c.requires.issued, c.self.invariant.issued, ap (λ (l : Levels). l.issued) c.self.view_is),
+                  ),
                 ),
               ),
             ),

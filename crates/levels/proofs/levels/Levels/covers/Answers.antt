@@ -20,9 +20,9 @@ covers-requires g c = (
     (
       c.self.invariant.order,
       (
-      within_at g.row.W c.self.inside.issued c.self.inside.shelves c.args.self.now c.self.invariant.order c.self.view_is c.args.level c.requires.within,
-      subst (λ (h : Closure). is_member h c.args.id ≡ true)
-          (graph_is g.row.W c.self.inside.issued c.self.inside.shelves c.args.self.now c.self.invariant.order c.self.view_is c.args.level) c.requires.live,
+        within_at g.row.W c.self.inside.issued c.self.inside.shelves c.args.self.now c.self.invariant.order c.self.view_is c.args.level c.requires.within,
+        subst (λ (h : Closure). is_member h c.args.id ≡ true)
+            (graph_is g.row.W c.self.inside.issued c.self.inside.shelves c.args.self.now c.self.invariant.order c.self.view_is c.args.level) c.requires.live,
       ),
     ),
   ),

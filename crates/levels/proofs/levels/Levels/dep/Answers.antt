@@ -80,7 +80,7 @@ invariant_of-self-2 g c =
     let done = c.connect.ensures in
     kept_on g.row.W c.self.inside.mains c.self.inside.tops c.self.inside.issued
     c.self.inside.shelves c.connect.new.shelves c.self.inside.rings c.connect.new.rings
-    c.self.invariant c.connect.result done.kept.0 done.kept.1 c.args.parent c.args.child 
+    c.self.invariant c.connect.result done.kept.0 done.kept.1 c.args.parent c.args.child
     (connects_from c.connect.result g.row.W c.args.parent c.args.child c.refused_dep.new.self c.self.inside.shelves c.connect.new.shelves c.refused_dep.ensures.same c.connect.ensures.linked) done.kept.2
     (fails_from c.connect.result c.refused_dep.new.self c.self.inside.shelves c.connect.new.shelves (c.connect.new.rings ≡ c.self.inside.rings) c.refused_dep.ensures.same c.connect.ensures.err)
 
@@ -124,7 +124,7 @@ returns-clause-same g c =
         | in-Err w ↦
             subst (λ r. IfErr r Stays) (sym w.result-is) (
               as_it_was (subst (λ r. OnErr r ((new ≡ old) × (c.connect.new.rings ≡ c.self.inside.rings))) w.in-Err.is
-              (fails_from c.connect.result c.refused_dep.new.self c.self.inside.shelves c.connect.new.shelves (c.connect.new.rings ≡ c.self.inside.rings) c.refused_dep.ensures.same c.connect.ensures.err)).0,
+                  (fails_from c.connect.result c.refused_dep.new.self c.self.inside.shelves c.connect.new.shelves (c.connect.new.rings ≡ c.self.inside.rings) c.refused_dep.ensures.same c.connect.ensures.err)).0,
               (λ other. absurd (other refl)),
             )
       ],

@@ -30,9 +30,9 @@ drop_names-requires g c = (
         (
           few_kept g.row.W c.self.inside.mains c.self.inside.tops c.self.inside.issued c.self.inside.shelves c.self.inside.rings c.self.invariant,
           (
-          λ id here. sym (member_is g.row.W c.self.inside.issued c.self.inside.shelves c.args.self.now c.self.invariant.order c.self.view_is Top id)
-              ∙ c.requires.live id here,
-          c.requires.once,
+            λ id here. sym (member_is g.row.W c.self.inside.issued c.self.inside.shelves c.args.self.now c.self.invariant.order c.self.view_is Top id)
+                ∙ c.requires.live id here,
+            c.requires.once,
           ),
         ),
       ),

@@ -31,6 +31,11 @@ returns-in-None g c = member_is g.row.W c.self.inside.issued c.self.inside.shelv
     ∙ ap is_some (sym c.in-None.ensures.number)
 
 pub ordered_at-requires : goal.ordered_at-requires
-ordered_at-requires g c =
-    (search rules, (search rules, ordered_there g.row.W c.args.level c.self.inside.shelves c.self.invariant.order
-    (within_at g.row.W c.self.inside.issued c.self.inside.shelves c.args.self.now c.self.invariant.order c.self.view_is c.args.level c.requires) c.args.id c.in-Some.number (sym c.in-Some.ensures.number)))
+ordered_at-requires g c = (
+  search rules,
+  (
+    search rules,
+    ordered_there g.row.W c.args.level c.self.inside.shelves c.self.invariant.order
+        (within_at g.row.W c.self.inside.issued c.self.inside.shelves c.args.self.now c.self.invariant.order c.self.view_is c.args.level c.requires) c.args.id c.in-Some.number (sym c.in-Some.ensures.number),
+  ),
+)

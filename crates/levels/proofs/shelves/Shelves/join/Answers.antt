@@ -33,8 +33,7 @@ pub joined-requires : goal.joined-requires
 joined-requires g c =
     let narrow : g.row.W ≤ 2 = c.requires.order.narrow in
     let is = sides g.row.W c.args.self.now c.requires.order c.args.parent c.args.child c.args.first c.args.second
-    c.at-one.result.now c.at-other.result.now c.requires.link c.requires.few c.at-one.ensures c.at-other.ensures in
-    (
+    c.at-one.result.now c.at-other.result.now c.requires.link c.requires.few c.at-one.ensures c.at-other.ensures in (
       record_fits g.row.W narrow,
       (
         work_fits g.row.W narrow,
@@ -42,13 +41,13 @@ joined-requires g c =
           narrow,
           subst (λ (l : Limits). MayJoin (64 * g.row.W) l c.at-one.result.now c.at-other.result.now c.args.parent c.args.child)
               (sym (ap (λ (s : Shelf). s.limits) c.self.view_is)) (record {
-            few = c.requires.order.in_range.count_high;
-            one_fits = c.requires.order.fitted c.args.first c.at-one.result.now c.at-one.ensures;
-            other_fits = c.requires.order.fitted c.args.second c.at-other.result.now c.at-other.ensures;
-            total = is.few;
-            apart = is.alone;
-            across = is.across;
-          }),
+                few = c.requires.order.in_range.count_high;
+                one_fits = c.requires.order.fitted c.args.first c.at-one.result.now c.at-one.ensures;
+                other_fits = c.requires.order.fitted c.args.second c.at-other.result.now c.at-other.ensures;
+                total = is.few;
+                apart = is.alone;
+                across = is.across;
+              }),
         ),
       ),
     )
