@@ -1,14 +1,16 @@
--- The limits in force: `limits` alone sets them.
-use Rattle.std.proofs.Common.{◌≡◌, ℕ, zero, suc, Bool, true, false, if◌then◌else◌, List, [], ◌∷◌, refl, ap, ◌∙◌, inl, inr}
+-- Whether a dependency may pass the limits: `limits` alone says so.
+use Rattle.std.proofs.Common.{◌≡◌, ℕ, zero, suc, Bool, true, false, if◌then◌else◌, List, [], ◌∷◌, refl, ap, subst, ◌∙◌, inl, inr}
 use Rattle.std.specs.Prelude.{ltb, ◌==◌}
 use Rattle.graphs.specs.Graphs.{Graph}
 use Rattle.graph_model.specs.States.{PlainState, Picks, State, with_top}
-use Rattle.graph_model.specs.Commands.{Command, SetLimits, Add, Dep, SetFee, Remove, Mine, Evict, Stage, Commit, Abort, Settle, Trim, Unmine, Dump, Compare, Order, Diagram, Proof, Cluster, Ancestors, Descendants, Chunk, Before, Block, Count}
+use Rattle.graph_model.specs.Commands.{Command, IsBuilt, SetLimits, Add, Dep, SetFee, Remove, Mine, Evict, Stage, Commit, Abort, Settle, Trim, Unmine, Dump, Compare, Order, Diagram, Proof, Cluster, Ancestors, Descendants, Chunk, Before, Block, Count}
 use Rattle.graph_model.specs.Replies.{Reply}
 use Rattle.graph_model.specs.Changes.{begun, Forgets, DropsFromTop, Changes}
 use Rattle.graph_model.specs.Steps.{Step}
 use Rattle.graph_model.specs.Generators.{commands_from, draw, drawn_add, drawn_change, drawn_command, drawn_dep, drawn_remove}
-use Rattle.graph_model.specs.Runs.{CommandsRun}
+use Rattle.graph_model.specs.Limits.{Bounds}
+use Rattle.graph_model.specs.Lines.{Means, Says}
+use Rattle.graph_model.specs.Runs.{Answer, Silence, TooLong, Unread, Replies, CommandsRun, LineStep}
 use Rattle.graph_model.proofs.ChangeLemmas.{of_top}
 
 top_keeps : (state : PlainState) (top : Graph) → (with_top state top).limits ≡ state.limits
@@ -24,80 +26,94 @@ lessened_keeps : (old new : PlainState) (ids : List ℕ) → DropsFromTop old id
 lessened_keeps old new [] same = kept (begun old) new same
 lessened_keeps old new (id ∷ ids) drops = forgets_keeps (with_top (begun old) drops.0) new drops.2 ∙ top_keeps (begun old) drops.0
 
--- The command isn't `limits`, and the program does it.
-abbrev pub SetsNoLimits : Command → Type 0
-SetsNoLimits (SetLimits limits) = ⊥
-SetsNoLimits Trim = ⊥
-SetsNoLimits Unmine = ⊥
-SetsNoLimits Dump = ⊥
-SetsNoLimits command = Unit {0}
+-- The program does the command, and it isn't a `limits` after which a dependency may pass them.
+abbrev pub IsStrict : Command → Type 0
+IsStrict command = IsBuilt command × ((bounds : Bounds) → command ≡ SetLimits bounds → bounds.defer ≡ false)
 
--- and so leaves them
-change_keeps : (picks : Picks) (old new : PlainState) (command : Command) → SetsNoLimits command → Changes picks old command new → new.limits ≡ old.limits
-change_keeps picks old new (SetLimits limits) other change = absurd other
-change_keeps picks old new (Add id fee size) other change = kept _ new change ∙ top_keeps _ _
-change_keeps picks old new (Dep parent child) other change = elim change [
-  | inl there ↦ kept (begun old) new there.1
-  | inr fresh ↦ kept _ new fresh.1 ∙ top_keeps (begun old) _
-]
-change_keeps picks old new (SetFee id fee) other change = kept _ new change
-change_keeps picks old new (Remove id) other change = forgets_keeps (with_top (begun old) change.0) new change.2 ∙ top_keeps (begun old) change.0
-change_keeps picks old new (Mine ids) other change = forgets_keeps _ new change.2.2
-change_keeps picks old new Evict other change = forgets_keeps _ new change.4.2
-change_keeps picks old new Stage other change = kept _ new change
-change_keeps picks old new Commit other change = forgets_keeps _ new change
-change_keeps picks old new Abort other change = forgets_keeps _ new change
-change_keeps picks old new Settle other change =
-    elim change [ inl better ↦ forgets_keeps _ new better.1 | inr other ↦ forgets_keeps _ new other.1 ]
-change_keeps picks old new Trim other change = absurd other
-change_keeps picks old new Unmine other change = absurd other
-change_keeps picks old new Dump other change = absurd other
-change_keeps picks old new Compare other change = kept old new change
-change_keeps picks old new (Order level) other change = kept old new change
-change_keeps picks old new (Diagram level) other change = kept old new change
-change_keeps picks old new (Proof level) other change = kept old new change
-change_keeps picks old new (Cluster id level) other change = kept old new change
-change_keeps picks old new (Ancestors id level) other change = kept old new change
-change_keeps picks old new (Descendants id level) other change = kept old new change
-change_keeps picks old new (Chunk id) other change = kept old new change
-change_keeps picks old new (Before a b) other change = kept old new change
-change_keeps picks old new (Block size) other change = kept old new change
-change_keeps picks old new (Count level) other change = kept old new change
+-- where no dependency may pass the limits, none may after such a change
+change_strict : (picks : Picks) (old new : PlainState) (command : Command) → IsStrict command → Changes picks old command new
+    → old.limits.defer ≡ false → new.limits.defer ≡ false
+change_strict picks old new command strict change before = by command strict change
+  where
+    along : new.limits ≡ old.limits → new.limits.defer ≡ false
+    along is = ap (λ (b : Bounds). b.defer) is ∙ before
 
-step_keeps : (old new : State) (command : Command) (reply : Reply) → SetsNoLimits command → Step old command reply new
-    → new.plain.limits ≡ old.plain.limits
-step_keeps old new command reply other step = elim step [
-  | inl refused ↦ ap (λ (s : State). s.plain.limits) refused.same
+    by : (command : Command) → IsStrict command → Changes picks old command new → new.limits.defer ≡ false
+    by (SetLimits limits) strict change = ap (λ (p : PlainState). p.limits.defer) change ∙ strict.1 limits refl
+    by (Add id fee size) strict change = along (kept _ new change ∙ top_keeps _ _)
+    by (Dep parent child) strict change = elim change [
+      | inl there ↦ along (kept (begun old) new there.1)
+      | inr fresh ↦ along (kept _ new fresh.1 ∙ top_keeps (begun old) _)
+    ]
+    by (SetFee id fee) strict change = along (kept _ new change)
+    by (Remove id) strict change = along (forgets_keeps (with_top (begun old) change.0) new change.2 ∙ top_keeps (begun old) change.0)
+    by (Mine ids) strict change = along (forgets_keeps _ new change.2.2)
+    by Evict strict change = along (forgets_keeps _ new change.4.2)
+    by Stage strict change = along (kept _ new change)
+    by Commit strict change = along (forgets_keeps _ new change)
+    by Abort strict change = along (forgets_keeps _ new change)
+    by Settle strict change = elim change [ inl better ↦ along (forgets_keeps _ new better.1) | inr other ↦ along (forgets_keeps _ new other.1) ]
+    by Trim strict change = absurd strict.0
+    by Unmine strict change = absurd strict.0
+    by Dump strict change = absurd strict.0
+    by Compare strict change = along (kept old new change)
+    by (Order level) strict change = along (kept old new change)
+    by (Diagram level) strict change = along (kept old new change)
+    by (Proof level) strict change = along (kept old new change)
+    by (Cluster id level) strict change = along (kept old new change)
+    by (Ancestors id level) strict change = along (kept old new change)
+    by (Descendants id level) strict change = along (kept old new change)
+    by (Chunk id) strict change = along (kept old new change)
+    by (Before a b) strict change = along (kept old new change)
+    by (Block size) strict change = along (kept old new change)
+    by (Count level) strict change = along (kept old new change)
+
+step_strict : (old new : State) (command : Command) (reply : Reply) → IsStrict command → Step old command reply new
+    → old.plain.limits.defer ≡ false → new.plain.limits.defer ≡ false
+step_strict old new command reply strict step before = elim step [
+  | inl refused ↦ ap (λ (s : State). s.plain.limits.defer) refused.same ∙ before
   | inr rest ↦ elim rest [
     | inl want ↦ elim want [
-      | inl lacks ↦ ap (λ (s : State). s.plain.limits) lacks.same
-      | inr gives ↦ ap (λ (s : State). s.plain.limits) gives.same
+      | inl lacks ↦ ap (λ (s : State). s.plain.limits.defer) lacks.same ∙ before
+      | inr gives ↦ ap (λ (s : State). s.plain.limits.defer) gives.same ∙ before
     ]
-    | inr fine ↦ change_keeps old.picks old.plain new.plain command other fine.accepts.plain.change
+    | inr fine ↦ change_strict old.picks old.plain new.plain command strict fine.accepts.plain.change before
   ]
 ]
 
--- ---- generated commands
+-- ---- lines, and generated commands
 
-of_two : (a b : Command × ℕ) (test : Bool) → SetsNoLimits a.0 → SetsNoLimits b.0 → SetsNoLimits (if test then a else b).0
+-- the same after a line that sets no limits which a dependency may pass
+pub line_strict : (old new : State) (line : List ℕ) (answer : Answer)
+    → ((bounds : Bounds) → Means line (Says (SetLimits bounds)) → bounds.defer ≡ false) → LineStep old line answer new
+    → old.plain.limits.defer ≡ false → new.plain.limits.defer ≡ false
+line_strict old new line Silence sets step before = ap (λ (s : State). s.plain.limits.defer) step.2 ∙ before
+line_strict old new line TooLong sets step before = ap (λ (s : State). s.plain.limits.defer) step.1 ∙ before
+line_strict old new line Unread sets step before = ap (λ (s : State). s.plain.limits.defer) step.2 ∙ before
+line_strict old new line (Replies reply) sets (short, command, means, step) before =
+    step_strict old new command reply
+    (means.2, λ bounds is. sets bounds (subst (λ (c : Command). Means line (Says c)) is means)) step before
+
+of_two : (a b : Command × ℕ) (test : Bool) → IsStrict a.0 → IsStrict b.0 → IsStrict (if test then a else b).0
 of_two a b true here there = here
 of_two a b false here there = there
 
-drawn_other : (k x : ℕ) → SetsNoLimits (drawn_command k x).0
-drawn_other k x =
+drawn_strict : (k x : ℕ) → IsStrict (drawn_command k x).0
+drawn_strict k x =
     let kind = draw x 20 in
-    of_two (drawn_add k kind.1) _ (ltb kind.0 8) tt
-    (of_two (drawn_dep k kind.1) _ (ltb kind.0 14) tt
-    (of_two (drawn_change k kind.1) _ (kind.0 == 14) tt
-    (of_two (drawn_remove k kind.1) _ (kind.0 == 15) tt
-    (of_two (Stage, kind.1) _ (kind.0 == 16) tt
-    (of_two (Commit, kind.1) _ (kind.0 == 17) tt (of_two (Abort, kind.1) (Compare, kind.1) (kind.0 == 18) tt tt))))))
+    of_two (drawn_add k kind.1) _ (ltb kind.0 8) (tt, λ _ e. cc)
+    (of_two (drawn_dep k kind.1) _ (ltb kind.0 14) (tt, λ _ e. cc)
+    (of_two (drawn_change k kind.1) _ (kind.0 == 14) (tt, λ _ e. cc)
+    (of_two (drawn_remove k kind.1) _ (kind.0 == 15) (tt, λ _ e. cc)
+    (of_two (Stage, kind.1) _ (kind.0 == 16) (tt, λ _ e. cc)
+    (of_two (Commit, kind.1) _ (kind.0 == 17) (tt, λ _ e. cc)
+    (of_two (Abort, kind.1) (Compare, kind.1) (kind.0 == 18) (tt, λ _ e. cc) (tt, λ _ e. cc)))))))
 
--- leave the limits, however they are answered
-pub generated_keep : (n x k : ℕ) (old end : State) (replies : List Reply) → CommandsRun old (commands_from x k n) replies end
-    → end.plain.limits ≡ old.plain.limits
-generated_keep zero x k old end [] run = ap (λ (s : State). s.plain.limits) run
-generated_keep zero x k old end (reply ∷ replies) run = absurd run
-generated_keep (suc n) x k old end [] run = absurd run
-generated_keep (suc n) x k old end (reply ∷ replies) (next, step, run) =
-    generated_keep n _ (suc k) next end replies run ∙ step_keeps old next (drawn_command k x).0 reply (drawn_other k x) step
+-- the same after generated commands, however they are answered
+pub generated_strict : (n x k : ℕ) (old end : State) (replies : List Reply) → CommandsRun old (commands_from x k n) replies end
+    → old.plain.limits.defer ≡ false → end.plain.limits.defer ≡ false
+generated_strict zero x k old end [] run before = ap (λ (s : State). s.plain.limits.defer) run ∙ before
+generated_strict zero x k old end (reply ∷ replies) run before = absurd run
+generated_strict (suc n) x k old end [] run before = absurd run
+generated_strict (suc n) x k old end (reply ∷ replies) (next, step, run) before =
+    generated_strict n _ (suc k) next end replies run (step_strict old next (drawn_command k x).0 reply (drawn_strict k x) step before)

@@ -35,7 +35,7 @@ abbrev pub AllStay : Levels → Levels → Type 0
 AllStay old new =
     (level : Level) → KeepsComponents (level_at old level).graph (level_at old level).parts (level_at new level).graph (level_at new level).parts
 
--- What every change of the levels keeps: the parts of each level are a pick of it that can't be cut further, and the components that the change
--- leaves as they are keep their parts and flows, in their order.
+-- What every change of the levels keeps: the parts of each level that isn't over the limits are a pick of it that can't be cut further, and the
+-- components that the change leaves as they are keep their parts and flows, in their order, also where their level is over the limits.
 abbrev pub KeepsPicks : Levels → Levels → Type 0
 KeepsPicks old new = HavePicks new × AllStay old new

@@ -3,7 +3,7 @@ use Rattle.std.proofs.Common.{◌≡◌, ℕ, ◌<◌, ◌≤◌, false, true, L
 use Rattle.std.specs.Prelude.{◌↔◌, ◌⊎◌, ◌==◌, Contains}
 use Rattle.std.specs.List.{zip}
 use Rattle.std.proofs.lemmas.Option.{same_Some}
-use Rattle.lists.proofs.Entries.{Contains-cases, none_in_empty}
+use Rattle.lists.proofs.Entries.{Contains-cases, Contains-head, none_in_empty}
 use Rattle.outside.specs.Transfers.{AppendsFront}
 use Rattle.graphs.specs.declared.names.Level.{Level}
 use Rattle.graphs.specs.declared.names.Level.TheVariants.{Main, Top}
@@ -22,6 +22,8 @@ use Rattle.graph_model.specs.Texts.{Text, Verification, NoSyntax, Found, Verifie
 use Rattle.replay.specs.declared.session.TheConstants.{MOST_NAMES}
 use Rattle.graph_model.proofs.ProofLemmas.{proofs_are_certificates}
 use Rattle.graph_model.proofs.StepLemmas.{steps_keep_valid}
+use Rattle.graph_model.proofs.LimitLemmas.{line_strict}
+use Rattle.graph_model.proofs.ValidLemmas.{top_level}
 use Rattle.graph_model.specs.Oversize.{IsOversized}
 use Rattle.wire.proofs.CommandLemmas.{one_command}
 use Rattle.wire.proofs.CutLemmas.{one_cut}
@@ -32,7 +34,7 @@ use Rattle.replay.specs.declared.top.Status.TheVariants as statuses
 use Rattle.replay.specs.Inputs.{ReadsTo}
 use Rattle.replay.specs.Statuses.{EndsWell}
 use Rattle.replay.specs.Checks.{IsVerified, Checks}
-use Rattle.replay.specs.CheckLaws.{SaysYes, AreAccepted, CheckAcceptsProofs}
+use Rattle.replay.specs.CheckLaws.{SaysYes, AreAccepted, CheckAcceptsProofs, SetStrictly}
 use Rattle.replay.proofs.FeedLemmas.{text_cut}
 
 -- ---- what is said of lines that are a certificate
@@ -211,9 +213,54 @@ accepted_in written old end (first ∷ lines) (reply ∷ answers) valid (next, s
       | inr later ↦ accepted_in written next end lines answers (line_valid old next first reply valid step) run line level answer later means
     ]
 
+-- where no dependency may pass the limits no level is oversized
+none_over : (state : State) (level : Level) → IsValidState state → state.plain.limits.defer ≡ false → IsOversized state.plain level → ⊥
+none_over state Main valid strict = valid.plain.main.within strict
+none_over state Top valid strict = (top_level state.plain valid.plain).within strict
+
+-- so no `proof` is refused for it
+never_over : (old new : State) (line : List ℕ) (level : Level) → IsValidState old → old.plain.limits.defer ≡ false
+    → Means line (Says (Proof level)) → LineStep old line (Replies (Refused Oversized)) new → ⊥
+never_over old new line level valid strict means (short, command, others, step) =
+    let same : command ≡ Proof level = one_command (without_return line) command (Proof level) others.1 means.1 in
+    elim (subst (λ (c : Command). Step old c (Refused Oversized) new) same step) [
+      | inl refused ↦ elim refused.first [
+        | inl over ↦ none_over old level valid strict over.0
+        | inr rest ↦ (let none : Some refused.why ≡ None = rest.1 in absurd (cc))
+      ]
+      | inr rest ↦ elim rest [
+        | inl want ↦ elim want [ inl lacks ↦ absurd lacks.may | inr gives ↦ absurd gives.may ]
+        | inr fine ↦ (let (pick, text, picked, proves, is) = fine.accepts.plain.answer in absurd (cc))
+      ]
+    ]
+
+-- each line of such a run
+strict_in : {K : Type 0} (written : K → Option (List ℕ)) (old end : State) (lines : List (List ℕ)) (answers : List Answer) → IsValidState old
+    → old.plain.limits.defer ≡ false → SetStrictly lines → Run old lines answers end → (line : List ℕ) (level : Level) (answer : Answer)
+    → Contains (zip lines answers) (line, answer) → Means line (Says (Proof level)) → AreAccepted written (answer_text answer)
+strict_in written old end [] answers valid strict sets run line level answer here means = absurd (none_in_empty (line, answer) here)
+strict_in written old end (first ∷ lines) [] valid strict sets run line level answer here means = absurd run
+strict_in written old end (first ∷ lines) (reply ∷ answers) valid strict sets (next, step, run) line level answer here means =
+    elim (Contains-cases (first, reply) (line, answer) (zip lines answers) here) [
+      | inl same ↦
+          let is : first ≡ line = ap (λ (pair : List ℕ × Answer). pair.0) same in
+          let gets : reply ≡ answer = ap (λ (pair : List ℕ × Answer). pair.1) same in
+          let this : LineStep old line answer next = subst₂ (λ (l : List ℕ) (a : Answer). LineStep old l a next) is gets step in
+          elim (line_accepted written old next line level answer valid means this) [
+            | inl over ↦ absurd (never_over old next line level valid strict means (subst (λ (a : Answer). LineStep old line a next) over this))
+            | inr accepted ↦ accepted
+          ]
+      | inr later ↦
+          strict_in written next end lines answers (line_valid old next first reply valid step)
+          (line_strict old next first reply (λ bounds. sets first bounds (Contains-head first lines)) step strict)
+          (λ other bounds there. sets other bounds (Contains-behind first other lines there)) run line level answer later means
+    ]
+
 pub check_accepts_proofs : {K : Type 0} (written : K → Option (List ℕ)) → CheckAcceptsProofs written
 check_accepts_proofs written = record {
   steps = step_accepted written;
   runs = λ lines answers end run.
       accepted_in written (start MOST_NAMES) end lines answers (steps_keep_valid.begins MOST_NAMES (omega arith) (omega arith)) run;
+  strict = λ lines answers end run sets.
+      strict_in written (start MOST_NAMES) end lines answers (steps_keep_valid.begins MOST_NAMES (omega arith) (omega arith)) refl sets run;
 }

@@ -9,7 +9,7 @@ use Rattle.graph_model.specs.States.{State, start}
 use Rattle.graph_model.specs.Replies.{Reply}
 use Rattle.graph_model.specs.Runs.{CommandsRun}
 use Rattle.graph_model.specs.Generators.{drawn_command, commands_from, generated}
-use Rattle.graph_model.proofs.LimitLemmas.{generated_keep}
+use Rattle.graph_model.proofs.LimitLemmas.{generated_strict}
 use Rattle.levels.specs.Levels.{IsWithin}
 use Rattle.tx_graph.proofs.Oversizing.{oversized_at}
 use Rattle.tx_graph.specs.Kept.{Kept, StandsFor, MakesStep}
@@ -142,6 +142,5 @@ played_all seed count kept tally x k all playing = record {
 -- generated commands leave the limits of the start, which no dependency may pass
 pub played_within : (seed count : ℕ) (kept : Kept) (tally : Tally) → IsPlayed seed count kept tally → IsWithin kept.levels Main
 played_within seed count kept tally played over =
-    let strict : played.state.plain.limits.defer ≡ false =
-    ap (λ (b : Bounds). b.defer) (generated_keep count seed 1 (start MOST_NAMES) played.state played.replies played.run) in
+    let strict = generated_strict count seed 1 (start MOST_NAMES) played.state played.replies played.run refl in
     played.stands.plain.valid.main.within strict ((oversized_at kept played.state.plain played.stands.plain Main).0 over)

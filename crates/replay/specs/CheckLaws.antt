@@ -1,5 +1,5 @@
 -- What a reader would expect of the two commands together: what `proof` writes is answered `yes` by `check`.
-use Rattle.std.specs.Prelude.{◌≡◌, ◌↔◌, ◌⊎◌, ℕ, ◌≤◌, List, length, codes, Contains, Option, Some}
+use Rattle.std.specs.Prelude.{◌≡◌, ◌↔◌, ◌⊎◌, ℕ, ◌≤◌, List, length, codes, Contains, Option, Some, false}
 use Rattle.std.specs.List.{zip}
 use Rattle.std.specs.Io.KnownBytes.{Appends}
 use Rattle.outside.specs.Transfers.{AppendsFront}
@@ -7,7 +7,8 @@ use Rattle.graphs.specs.declared.names.Level.{Level}
 use Rattle.graphs.specs.Certificates.{Certified}
 use Rattle.graph_model.specs.Words.{line_text}
 use Rattle.graph_model.specs.Lines.{Means, Says, max_input}
-use Rattle.graph_model.specs.Commands.{Proof}
+use Rattle.graph_model.specs.Commands.{Proof, SetLimits}
+use Rattle.graph_model.specs.Limits.{Bounds}
 use Rattle.graph_model.specs.States.{State, start}
 use Rattle.graph_model.specs.Oversize.{IsOversized}
 use Rattle.graph_model.specs.declared.names.Refusal.TheVariants.{Oversized}
@@ -44,11 +45,19 @@ pub record AreAccepted {K : Type 0} (written : K → Option (List ℕ)) (bytes :
   pub answered : length bytes ≤ max_input → (status : Status) (left : Option (List ℕ)) (old new : K) → Checks status (Some bytes) left written old new
       → SaysYes status written old new × (EndsWell status → (status ≡ statuses.Done) ⊎ (status ≡ statuses.NoMemory))
 
+-- no line sets limits that a dependency may pass
+abbrev pub SetStrictly : List (List ℕ) → Type 0
+SetStrictly lines = (line : List ℕ) (bounds : Bounds) → Contains lines line → Means line (Says (SetLimits bounds)) → bounds.defer ≡ false
+
 -- In a valid state, where the level isn't oversized, the text of the reply to `proof` is accepted. So in every run from the start, whatever
--- lines come before it, a line which says `proof` is answered by bytes that are accepted, or by the refusal of an oversized level.
+-- lines come before it, a line which says `proof` is answered by bytes that are accepted, or by the refusal of an oversized level; and always
+-- by bytes that are accepted where no line lets a dependency pass the limits.
 pub record CheckAcceptsProofs {K : Type 0} (written : K → Option (List ℕ)) : Type 0 where
   pub steps : (old new : State) (level : Level) (reply : Reply) → IsValidState old → (IsOversized old.plain level → ⊥) → Step old (Proof level) reply new
       → AreAccepted written (text_of reply)
   pub runs : (lines : List (List ℕ)) (answers : List Answer) (end : State) → Run (start MOST_NAMES) lines answers end
       → (line : List ℕ) (level : Level) (answer : Answer) → Contains (zip lines answers) (line, answer) → Means line (Says (Proof level))
       → (answer ≡ Replies (Refused Oversized)) ⊎ AreAccepted written (answer_text answer)
+  pub strict : (lines : List (List ℕ)) (answers : List Answer) (end : State) → Run (start MOST_NAMES) lines answers end → SetStrictly lines
+      → (line : List ℕ) (level : Level) (answer : Answer) → Contains (zip lines answers) (line, answer) → Means line (Says (Proof level))
+      → AreAccepted written (answer_text answer)
