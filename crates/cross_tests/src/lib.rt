@@ -14,4 +14,6 @@ mod replay_tests;
 #[cfg(test)]
 mod replies;
 #[cfg(test)]
+mod trimmed;
+#[cfg(test)]
 mod wide_tests;

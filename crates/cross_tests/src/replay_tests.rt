@@ -149,7 +149,7 @@ const RUNS: [Row; 16] = [
          refused late\nrefused syntax\nrefused syntax\nrefused syntax\nrefused unknown 9\nrefused syntax\n",
     ),
     (
-        "mine\ntrim\nunmine\ndump\nlimits 64 1 defer\nblock 1 1\nevict 1\n",
+        "mine\ntrim 1\nunmine\ndump\nlimits 64 1 defer\nblock 1 1\nevict 1\n",
         "refused syntax\nrefused syntax\nrefused syntax\nrefused syntax\nrefused syntax\nrefused syntax\nrefused syntax\n",
     ),
 ];
@@ -187,7 +187,7 @@ const BLOCKS: [Row; 7] = [
 ];
 
 /// Inputs of `replay` whose dependencies may pass the limits, with their outputs.
-const OVERSIZED: [Row; 6] = [
+const OVERSIZED: [Row; 10] = [
     (
         "limits 2 1000 10 defer\nadd 1 3 1\nadd 2 2 1\nadd 3 1 1\ndep 1 2\ndep 2 3\ndep 1 3\norder main\ncount main\n\
          ancestors 3 main\ncluster 9 top\nevict\nremove 3\norder main\n",
@@ -222,6 +222,23 @@ const OVERSIZED: [Row; 6] = [
         "limits 129 1 1 defer\nlimits 1 1 1  defer\nlimits 1 1 1 defer defer\nlimits 1 1 1 DEFER\nlimits 1 1 1 defer\nlimits 1 1 2\n\
          add 1 0 1\nadd 2 0 1\nlimits 1 1 1 defer\n",
         "refused range\nrefused syntax\nrefused syntax\nrefused syntax\nok\nrefused late\nok\nrefused full\nrefused late\n",
+    ),
+    (
+        "limits 2 1000 10 defer\nadd 1 1 1\nadd 2 5 1\nadd 3 3 1\ndep 1 2\ndep 1 3\ntrim\norder top\n",
+        "ok\nok\nok\nok\nok\nok\ntrimmed 3 1 3\nchunk 6 2 1 2\nend\n",
+    ),
+    (
+        "limits 2 1000 10 defer\nadd 1 9 1\nadd 2 8 1\nadd 3 7 1\nadd 4 6 1\ndep 1 2\ndep 2 3\ndep 3 4\ntrim\ncount top\n",
+        "ok\nok\nok\nok\nok\nok\nok\nok\ntrimmed 13 2 3 4\ncount 2\n",
+    ),
+    (
+        "trim\nlimits 64 9 9\nadd 1 1 1\ntrim\ncount main\n",
+        "trimmed 0 0\nrefused late\nok\ntrimmed 0 0\ncount 1\n",
+    ),
+    (
+        "limits 2 9 9 defer\nadd 1 -4 4\nadd 2 3 4\nadd 3 3 4\nstage\ndep 1 2\ndep 1 3\nproof main\ntrim\norder main\norder top\ncommit\ntrim\n",
+        "ok\nok\nok\nok\nok\nok\nok\ntx 2 3 4\ntx 3 3 4\ntx 1 -4 4\nchunk 3 4 2\nchunk 3 4 3\nchunk -4 4 1\nend\n\
+         trimmed 3 4 3\nchunk 3 4 2\nchunk 3 4 3\nchunk -4 4 1\nend\nchunk -1 8 1 2\nend\nok\ntrimmed 0 0\n",
     ),
 ];
 

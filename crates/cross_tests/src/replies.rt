@@ -1,6 +1,7 @@
 //! The session answers lines as the plain lists do, and proves its orders to the checker.
 use crate::picked::{evict, fill};
-use graph_model::{IdBuf, Level, Limits, MAX_LINE, Refusal, TxId};
+use crate::trimmed::trim;
+use graph_model::{DEFAULT_LIMITS, IdBuf, Level, Limits, MAX_LINE, Refusal, TxId};
 use outside::{Failed, MemSink, MemSource, NoMemory, Sink};
 use plain_graph::Plain;
 use replay::{Piece, Session, Status, run};
@@ -13,6 +14,7 @@ use wire::{Line, read_line, write_ids, write_refusal, write_word};
 #[derive(Drop)]
 pub struct Lists {
     alloc: Global,
+    limits: Limits,
     /// the names that are live, for refusals that ask both levels
     live: Plain,
     main: Plain,
@@ -23,6 +25,7 @@ impl Lists {
     fn new(alloc: Global) -> Result<Lists, NoMemory> {
         Ok(Lists {
             alloc,
+            limits: DEFAULT_LIMITS,
             live: Plain::new(alloc)?,
             main: Plain::new(alloc)?,
             staging: None,
@@ -34,7 +37,7 @@ impl Lists {
         self.level(level).oversized(level)
     }
 
-    fn level(&mut self, level: Level) -> &mut Plain {
+    pub fn level(&mut self, level: Level) -> &mut Plain {
         match (level, &mut self.staging) {
             (Level::Top, Some(staging)) => staging,
             _ => &mut self.main,
@@ -43,7 +46,12 @@ impl Lists {
 
     fn set_limits(&mut self, limits: Limits) -> Result<(), Refusal> {
         self.live.set_limits(limits)?;
+        self.limits = limits;
         self.main.set_limits(limits)
+    }
+
+    pub fn limits(&self) -> Limits {
+        self.limits
     }
 
     fn add(&mut self, rt: &impl Abort, id: TxId, fee: i64, size: u64) -> Result<(), Refusal> {
@@ -65,7 +73,7 @@ impl Lists {
     }
 
     /// A name that main keeps stays live.
-    fn remove(&mut self, id: TxId) -> Result<(), Refusal> {
+    pub fn remove(&mut self, id: TxId) -> Result<(), Refusal> {
         self.level(Level::Top).remove(id)?;
         match self.main.cluster(id, Level::Main) {
             Err(Refusal::Unknown(_)) => self.live.remove(id),
@@ -419,7 +427,7 @@ fn close_line(alloc: Global, state: &mut u64) -> Result<String, AllocError> {
     let one = draw(state, 12);
     let other = draw(state, 12);
     let level = if draw(state, 2) == 0 { "main" } else { "top" };
-    match draw(state, 24) {
+    match draw(state, 25) {
         0..6 => {
             let size = 1 + draw(state, 9) % 9;
             format!(in alloc; "add {one} {size} {size}")
@@ -433,6 +441,7 @@ fn close_line(alloc: Global, state: &mut u64) -> Result<String, AllocError> {
         19 => format!(in alloc; "mine {one} {other}"),
         20 => format!(in alloc; "mine {one}"),
         21 => String::from_str(alloc, "evict"),
+        22 => String::from_str(alloc, "trim"),
         _ => String::from_str(alloc, staging_line(draw(state, 8))),
     }
 }
@@ -465,6 +474,7 @@ fn agree_oversized<const W: usize>(
         match line.as_str() {
             "settle" => settle(rt, alloc, session, lists)?,
             "evict" => evict(rt, alloc, session, lists)?,
+            "trim" => trim(rt, alloc, session, lists)?,
             _ => agree(rt, alloc, session, lists, &line)?,
         }
         fill(rt, alloc, session, lists, draw(&mut state, 30))?;

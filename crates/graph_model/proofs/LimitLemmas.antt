@@ -3,7 +3,7 @@ use Rattle.std.proofs.Common.{◌≡◌, ℕ, zero, suc, Bool, true, false, if�
 use Rattle.std.specs.Prelude.{ltb, ◌==◌}
 use Rattle.graphs.specs.Graphs.{Graph}
 use Rattle.graph_model.specs.States.{PlainState, Picks, State, with_top}
-use Rattle.graph_model.specs.Commands.{Command, IsBuilt, SetLimits, Add, Dep, SetFee, Remove, Mine, Evict, Stage, Commit, Abort, Settle, Trim, Unmine, Dump, Compare, Order, Diagram, Proof, Cluster, Ancestors, Descendants, Chunk, Before, Block, Count}
+use Rattle.graph_model.specs.Commands.{Command, SetLimits, Add, Dep, SetFee, Remove, Mine, Evict, Stage, Commit, Abort, Settle, Trim, Unmine, Dump, Compare, Order, Diagram, Proof, Cluster, Ancestors, Descendants, Chunk, Before, Block, Count}
 use Rattle.graph_model.specs.Replies.{Reply}
 use Rattle.graph_model.specs.Changes.{begun, Forgets, DropsFromTop, Changes}
 use Rattle.graph_model.specs.Steps.{Step}
@@ -26,9 +26,9 @@ lessened_keeps : (old new : PlainState) (ids : List ℕ) → DropsFromTop old id
 lessened_keeps old new [] same = kept (begun old) new same
 lessened_keeps old new (id ∷ ids) drops = forgets_keeps (with_top (begun old) drops.0) new drops.2 ∙ top_keeps (begun old) drops.0
 
--- The program does the command, and it isn't a `limits` after which a dependency may pass them.
+-- The command isn't a `limits` after which a dependency may pass them.
 abbrev pub IsStrict : Command → Type 0
-IsStrict command = IsBuilt command × ((bounds : Bounds) → command ≡ SetLimits bounds → bounds.defer ≡ false)
+IsStrict command = (bounds : Bounds) → command ≡ SetLimits bounds → bounds.defer ≡ false
 
 -- where no dependency may pass the limits, none may after such a change
 change_strict : (picks : Picks) (old new : PlainState) (command : Command) → IsStrict command → Changes picks old command new
@@ -39,7 +39,7 @@ change_strict picks old new command strict change before = by command strict cha
     along is = ap (λ (b : Bounds). b.defer) is ∙ before
 
     by : (command : Command) → IsStrict command → Changes picks old command new → new.limits.defer ≡ false
-    by (SetLimits limits) strict change = ap (λ (p : PlainState). p.limits.defer) change ∙ strict.1 limits refl
+    by (SetLimits limits) strict change = ap (λ (p : PlainState). p.limits.defer) change ∙ strict limits refl
     by (Add id fee size) strict change = along (kept _ new change ∙ top_keeps _ _)
     by (Dep parent child) strict change = elim change [
       | inl there ↦ along (kept (begun old) new there.1)
@@ -53,9 +53,9 @@ change_strict picks old new command strict change before = by command strict cha
     by Commit strict change = along (forgets_keeps _ new change)
     by Abort strict change = along (forgets_keeps _ new change)
     by Settle strict change = elim change [ inl better ↦ along (forgets_keeps _ new better.1) | inr other ↦ along (forgets_keeps _ new other.1) ]
-    by Trim strict change = absurd strict.0
-    by Unmine strict change = absurd strict.0
-    by Dump strict change = absurd strict.0
+    by Trim strict change = along (lessened_keeps old new change.0 change.2)
+    by Unmine strict change = along (kept _ new change.3.same)
+    by Dump strict change = along (kept old new change)
     by Compare strict change = along (kept old new change)
     by (Order level) strict change = along (kept old new change)
     by (Diagram level) strict change = along (kept old new change)
@@ -92,7 +92,7 @@ line_strict old new line TooLong sets step before = ap (λ (s : State). s.plain.
 line_strict old new line Unread sets step before = ap (λ (s : State). s.plain.limits.defer) step.2 ∙ before
 line_strict old new line (Replies reply) sets (short, command, means, step) before =
     step_strict old new command reply
-    (means.2, λ bounds is. sets bounds (subst (λ (c : Command). Means line (Says c)) is means)) step before
+    (λ bounds is. sets bounds (subst (λ (c : Command). Means line (Says c)) is means)) step before
 
 of_two : (a b : Command × ℕ) (test : Bool) → IsStrict a.0 → IsStrict b.0 → IsStrict (if test then a else b).0
 of_two a b true here there = here
@@ -101,13 +101,13 @@ of_two a b false here there = there
 drawn_strict : (k x : ℕ) → IsStrict (drawn_command k x).0
 drawn_strict k x =
     let kind = draw x 20 in
-    of_two (drawn_add k kind.1) _ (ltb kind.0 8) (tt, λ _ e. cc)
-    (of_two (drawn_dep k kind.1) _ (ltb kind.0 14) (tt, λ _ e. cc)
-    (of_two (drawn_change k kind.1) _ (kind.0 == 14) (tt, λ _ e. cc)
-    (of_two (drawn_remove k kind.1) _ (kind.0 == 15) (tt, λ _ e. cc)
-    (of_two (Stage, kind.1) _ (kind.0 == 16) (tt, λ _ e. cc)
-    (of_two (Commit, kind.1) _ (kind.0 == 17) (tt, λ _ e. cc)
-    (of_two (Abort, kind.1) (Compare, kind.1) (kind.0 == 18) (tt, λ _ e. cc) (tt, λ _ e. cc)))))))
+    of_two (drawn_add k kind.1) _ (ltb kind.0 8) (λ _ e. cc)
+    (of_two (drawn_dep k kind.1) _ (ltb kind.0 14) (λ _ e. cc)
+    (of_two (drawn_change k kind.1) _ (kind.0 == 14) (λ _ e. cc)
+    (of_two (drawn_remove k kind.1) _ (kind.0 == 15) (λ _ e. cc)
+    (of_two (Stage, kind.1) _ (kind.0 == 16) (λ _ e. cc)
+    (of_two (Commit, kind.1) _ (kind.0 == 17) (λ _ e. cc)
+    (of_two (Abort, kind.1) (Compare, kind.1) (kind.0 == 18) (λ _ e. cc) (λ _ e. cc)))))))
 
 -- the same after generated commands, however they are answered
 pub generated_strict : (n x k : ℕ) (old end : State) (replies : List Reply) → CommandsRun old (commands_from x k n) replies end

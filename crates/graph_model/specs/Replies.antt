@@ -120,3 +120,8 @@ block_reply (Err none) = Refused Memory
 abbrev pub built_reply : Result Picked Refusal → Reply
 built_reply (Ok picked) = Built (picked_sum picked) picked.ids
 built_reply (Err why) = Refused why
+
+-- the reply of trimming
+abbrev pub trimmed_reply : Result Picked Refusal → Reply
+trimmed_reply (Ok picked) = Trimmed (picked_sum picked) picked.ids
+trimmed_reply (Err why) = Refused why

@@ -12,3 +12,4 @@ mod walk;
 
 pub use limits::MAX_NAMES;
 pub use plain::Plain;
+pub use tx::Tx;

@@ -403,6 +403,13 @@ impl Plain {
         self.found.ids()
     }
 
+    /// The transactions, each once.
+    pub fn txs(&self) -> &[Tx]
+        ensures { result.now ≡ self.now.txs }
+    {
+        &self.txs
+    }
+
     /// The pairs, the parent first in each.
     pub fn pairs(&self) -> &[(TxId, TxId)]
         ensures { result.now ≡ self.now.pairs }

@@ -7,7 +7,7 @@ use Rattle.graph_model.specs.Commands.{Command}
 use Rattle.graph_model.specs.Lines.{Meaning, Quiet, NoForm, Says}
 use Rattle.graph_model.specs.declared.names.Refusal.{Refusal}
 use Rattle.graph_model.specs.Refusals.{number_of}
-use Rattle.graph_model.specs.Replies.{Reply, Refused, Done, Ids, Number, Stands, Compared, Settled, Evicted, Built, picked_sum}
+use Rattle.graph_model.specs.Replies.{Reply, Refused, Done, Ids, Number, Stands, Compared, Settled, Evicted, Built, Trimmed, picked_sum}
 use Rattle.graph_model.specs.Runs.{answer_text}
 use Rattle.graph_model.specs.Runs as runs
 use Rattle.tx_graph.specs.Kept.{Kept, MakesStep}
@@ -45,6 +45,7 @@ Tells graph (kept.Compared verdict) found answer = answer ≡ runs.Replies (Comp
 Tells graph (kept.Settled verdict) found answer = answer ≡ runs.Replies (Settled verdict)
 Tells graph (kept.Evicted picked) found answer = answer ≡ runs.Replies (Evicted (picked_sum picked) picked.ids)
 Tells graph (kept.Block picked) found answer = answer ≡ runs.Replies (Built (picked_sum picked) picked.ids)
+Tells graph (kept.Trimmed picked) found answer = answer ≡ runs.Replies (Trimmed (picked_sum picked) picked.ids)
 Tells graph (kept.Reads reading) found answer = IsReadOf graph (reading_command reading) answer
 
 -- the answer where a request may be refused

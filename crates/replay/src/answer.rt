@@ -44,6 +44,8 @@ pub(crate) enum Answer {
     Evicted(Picked),
     /// what a block of main has
     Block(Picked),
+    /// what was trimmed from the top level
+    Trimmed(Picked),
     /// what the graph is read for as it is written
     Reads(Reading),
 }
@@ -78,6 +80,9 @@ impl Answer {
                 told(write_picked(sink, "evicted", picked), Outcome::Accepted)
             }
             Answer::Block(picked) => told(write_picked(sink, "block", picked), Outcome::Accepted),
+            Answer::Trimmed(picked) => {
+                told(write_picked(sink, "trimmed", picked), Outcome::Accepted)
+            }
             Answer::Reads(reading) => graph.read(*reading, sink),
         }
     }

@@ -21,6 +21,7 @@ use std::marker::Brand;
 use std::sync::ledger;
 use std::sync::ledger::Blank;
 use step_count::{Ledger, NoLedger, Steps};
+use trim::trim;
 use tx_graph::TxGraph;
 use wire::{Line, read_line};
 
@@ -196,6 +197,7 @@ fn answer_request<const W: usize, L: Ledger>(
         }
         Request::Evict => Ok(Answer::Evicted(evict(graph, steps)?)),
         Request::Block(size) => Ok(Answer::Block(fill_block(alloc, graph, size)?)),
+        Request::Trim => Ok(Answer::Trimmed(trim(alloc, graph, steps)?)),
         Request::Search(search) => {
             search.find(graph, ids)?;
             Ok(Answer::Names)

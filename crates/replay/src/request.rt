@@ -21,6 +21,8 @@ pub(crate) enum Request {
     Mine,
     /// that the last part of main goes
     Evict,
+    /// that the top level is cut back to its limits
+    Trim,
     /// a block of main of at most so many virtual bytes
     Block(u64),
     Search(Search),
@@ -67,7 +69,7 @@ impl From<Line> for Request {
         match line {
             Line::Quiet => Request::Silence,
             Line::Syntax => Request::Unread,
-            Line::Trim | Line::Unmine | Line::Dump => Request::Unread,
+            Line::Unmine | Line::Dump => Request::Unread,
             Line::Limits(limits) => Request::Change(Change::Limits(limits)),
             Line::Add(id, fee, size) => Request::Change(Change::Add(id, fee, size)),
             Line::Dep(parent, child) => Request::Change(Change::Dep(parent, child)),
@@ -75,6 +77,7 @@ impl From<Line> for Request {
             Line::Remove(id) => Request::Change(Change::Remove(id)),
             Line::Mine => Request::Mine,
             Line::Evict => Request::Evict,
+            Line::Trim => Request::Trim,
             Line::Block(size) => Request::Block(size),
             Line::Stage => Request::Change(Change::Stage),
             Line::Commit => Request::Change(Change::Commit),

@@ -24,3 +24,6 @@ evict-requires g c = assumption
 
 pub fill_block-requires : goal.fill_block-requires
 fill_block-requires g c = assumption
+
+pub trim-requires : goal.trim-requires
+trim-requires g c = assumption

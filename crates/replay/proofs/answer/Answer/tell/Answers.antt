@@ -1,5 +1,5 @@
 use Rattle.std.proofs.Common.{refl}
-use Rattle.graph_model.specs.Replies.{Refused, Done, Ids, Number, Stands, Compared, Settled, Evicted, Built, picked_sum}
+use Rattle.graph_model.specs.Replies.{Refused, Done, Ids, Number, Stands, Compared, Settled, Evicted, Built, Trimmed, picked_sum}
 use Rattle.graph_model.specs.Runs as runs
 use Rattle.replay.proofs.WritingLemmas.{one_line}
 use Rattle.replay.proofs.answer.Answer.tell.Goals as goal
@@ -77,4 +77,12 @@ returns-in-Block g c = (
   rw c.in-Block.is refl,
   c.told-in-Block.ensures.writes _ _ _ _ _ (one_line _ _ _ _ _ _ c.write_picked-in-Block.ensures),
   c.told-in-Block.ensures.told,
+)
+
+pub returns-in-Trimmed : goal.returns-in-Trimmed
+returns-in-Trimmed g c = (
+  runs.Replies (Trimmed (picked_sum c.in-Trimmed.picked) c.in-Trimmed.picked.ids),
+  rw c.in-Trimmed.is refl,
+  c.told-in-Trimmed.ensures.writes _ _ _ _ _ (one_line _ _ _ _ _ _ c.write_picked-in-Trimmed.ensures),
+  c.told-in-Trimmed.ensures.told,
 )
