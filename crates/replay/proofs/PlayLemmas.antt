@@ -12,7 +12,7 @@ use Rattle.graph_model.specs.Generators.{drawn_command, commands_from, generated
 use Rattle.graph_model.proofs.LimitLemmas.{generated_strict}
 use Rattle.levels.specs.Levels.{IsWithin}
 use Rattle.tx_graph.proofs.Oversizing.{oversized_at}
-use Rattle.tx_graph.specs.Kept.{Kept, StandsFor, MakesStep}
+use Rattle.reorg.specs.Kept.{Kept, StandsFor, MakesStep}
 use Rattle.replay.specs.declared.session.TheConstants.{MOST_NAMES}
 use Rattle.replay.specs.declared.tally.Tally.{Tally}
 use Rattle.replay.specs.Generations.{IsTally, IsPlayed}
@@ -140,7 +140,8 @@ played_all seed count kept tally x k all playing = record {
     none count k all = omega (arith, all)
 
 -- generated commands leave the limits of the start, which no dependency may pass
-pub played_within : (seed count : ℕ) (kept : Kept) (tally : Tally) → IsPlayed seed count kept tally → IsWithin kept.levels Main
+pub played_within : (seed count : ℕ) (kept : Kept) (tally : Tally) → IsPlayed seed count kept tally → IsWithin kept.graph.levels Main
 played_within seed count kept tally played over =
     let strict = generated_strict count seed 1 (start MOST_NAMES) played.state played.replies played.run refl in
-    played.stands.plain.valid.main.within strict ((oversized_at kept played.state.plain played.stands.plain Main).0 over)
+    let stands = played.stands.graph.plain in
+    stands.valid.main.within strict ((oversized_at kept.graph played.state.plain stands Main).0 over)

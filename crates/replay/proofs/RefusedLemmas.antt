@@ -10,7 +10,7 @@ use Rattle.graph_model.specs.Replies.{Refused}
 use Rattle.graph_model.specs.Runs as runs
 use Rattle.graph_model.specs.States.{PlainState, State}
 use Rattle.tx_graph.specs.Kept.{Kept, StandsFor, MakesStep}
-use Rattle.replay.specs.Answers.{IsReadOf}
+use Rattle.replay.specs.Answers.{IsReadOfGraph}
 
 -- a command whose row starts with an oversized level is refused where the level is oversized
 pub refused_over : (kept : Kept) (command : Command) (level : Level)
@@ -22,7 +22,7 @@ refused_over kept command level row over state stands =
 -- and so answered
 pub reads_over : (kept : Kept) (command : Command) (level : Level)
     → ((state : PlainState) → IsOversized state level → RefusalIs state command (Some Oversized))
-    → ((state : State) → StandsFor kept state → IsOversized state.plain level) → IsReadOf kept command (runs.Replies (Refused Oversized))
+    → ((state : State) → StandsFor kept state → IsOversized state.plain level) → IsReadOfGraph kept command (runs.Replies (Refused Oversized))
 reads_over kept command level row over = (Refused Oversized, refused_over kept command level row over, refl)
 
 -- what a call says that answers whether something holds, where it answers no

@@ -2,7 +2,7 @@
 use Rattle.std.proofs.Common.{ℕ, ◌≤◌, List, length, subst, sym, refl}
 use Rattle.graph_model.specs.Lines.{Meaning, Quiet, Says, NoForm, Means, max_line}
 use Rattle.graph_model.specs.Runs.{Answer}
-use Rattle.tx_graph.specs.Kept.{Kept, StandsFor}
+use Rattle.reorg.specs.Kept.{Kept, StandsFor}
 use Rattle.replay.specs.Answers.{AnswersMeaning}
 use Rattle.replay.specs.Requests.{MinesSome}
 use Rattle.replay.specs.Sessions.{Answers, Suits}

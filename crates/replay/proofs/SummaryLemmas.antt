@@ -12,7 +12,8 @@ use Rattle.graph_model.specs.Commands.{Diagram, Count}
 use Rattle.graph_model.specs.Replies.{Refused, Points, Number}
 use Rattle.graph_model.specs.Steps.{Step}
 use Rattle.graph_model.specs.Generators.{Summarizes}
-use Rattle.tx_graph.specs.Kept.{Kept, StandsFor, MakesStep}
+use Rattle.tx_graph.specs.Kept as graphs
+use Rattle.reorg.specs.Kept.{Kept, StandsFor}
 use Rattle.replay.specs.declared.session.TheConstants.{MOST_NAMES}
 use Rattle.replay.specs.declared.tally.Tally.{Tally}
 use Rattle.replay.specs.declared.totals.Totals.{Totals}
@@ -75,9 +76,9 @@ number_told state next n step = elim step [
   ]
 ]
 
-pub totals_are : (kept : Kept) (totals : Totals) (points : List (ℕ × ℤ)) → MakesStep kept kept (Diagram Main) (Points points)
-    → MakesStep kept kept (Count Main) (Number totals.count) → totals.corners ≡ length points → totals.total ≡ last_sum points
-    → (state : State) → StandsFor kept state → AreTotals state.plain totals
+pub totals_are : (kept : graphs.Kept) (totals : Totals) (points : List (ℕ × ℤ)) → graphs.MakesStep kept kept (Diagram Main) (Points points)
+    → graphs.MakesStep kept kept (Count Main) (Number totals.count) → totals.corners ≡ length points → totals.total ≡ last_sum points
+    → (state : State) → graphs.StandsFor kept state → AreTotals state.plain totals
 totals_are kept totals points draws counts corners last state stands =
     let drawn = draws state stands in
     let counted = counts state stands in

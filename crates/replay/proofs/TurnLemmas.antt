@@ -1,5 +1,5 @@
 -- Lines that are answered as they come.
-use Rattle.std.proofs.Common.{◌≡◌, ◌≢◌, ℕ, ◌+◌, ◌≤◌, ◌⊎◌, inl, inr, false, true, List, [], ◌∷◌, ◌++◌, length, Option, refl, sym, ap, subst, ◌∙◌, arith, append_assoc, append-nil, length-append}
+use Rattle.std.proofs.Common.{◌≡◌, ◌≢◌, ℕ, ◌+◌, ◌*◌, ◌≤◌, ◌⊎◌, inl, inr, false, true, List, [], ◌∷◌, ◌++◌, length, Option, refl, sym, ap, subst, ◌∙◌, arith, append_assoc, append-nil, length-append}
 use Rattle.std.specs.Prelude.{flat_map, All}
 use Rattle.std.proofs.lemmas.List.Elements.{All-nil, All-push}
 use Rattle.std.specs.Io.KnownBytes.{Appends}
@@ -11,7 +11,7 @@ use Rattle.graph_model.specs.Words.{line_text}
 use Rattle.graph_model.specs.Lines.{IsOneLine, Cut, with_last, max_input}
 use Rattle.graph_model.specs.Runs.{Answer, Run, LineStep, MayWrite, answer_text}
 use Rattle.graph_model.proofs.RunLemmas.{run-append}
-use Rattle.tx_graph.specs.Kept.{Kept, StandsFor}
+use Rattle.reorg.specs.Kept.{Kept, StandsFor}
 use Rattle.replay.specs.declared.input.End.TheVariants.{Told, Fault, Limit}
 use Rattle.replay.specs.declared.lines.Stage.{Stage}
 use Rattle.replay.specs.declared.lines.Stage.TheVariants.{Open, Ended, Past}
@@ -22,6 +22,7 @@ use Rattle.replay.specs.declared.lines.Next.{Next}
 use Rattle.replay.specs.declared.lines.Next.TheVariants as next
 use Rattle.replay.specs.Cuts.{Leaves, TakesTo, Reads, GivesLine, GivesNext, IsPiece}
 use Rattle.replay.specs.Gatherings.{HasSent, Sends}
+use Rattle.replay.specs.Pools.{most_raised}
 use Rattle.replay.specs.Sessions.{Answers, IsLine}
 use Rattle.replay.specs.Outputs.{BeginsWith, AreFirst, IsOutput}
 use Rattle.replay.specs.Statuses.{IsAnswered, IsCutOff}
@@ -47,10 +48,10 @@ pub record Played (kept : Kept) (cutter : Cutter) (held : List ℕ) (left now fi
   pub leaves : Leaves cutter rest
   pub given : AreGiven cutter.stage input lines rest
   pub sent : HasSent first written (flat_map answer_text answers) held
-  pub few : kept.levels.issued + length rest ≤ length input
+  pub few : kept.graph.levels.issued + 32766 * length rest ≤ 32766 * length input
 
 -- before the first line
-pub played_nothing : (kept : Kept) (cutter : Cutter) (held : List ℕ) (left first : Option (List ℕ)) → StandsFor kept (start MOST_NAMES) → kept.levels.issued ≡ 0
+pub played_nothing : (kept : Kept) (cutter : Cutter) (held : List ℕ) (left first : Option (List ℕ)) → StandsFor kept (start MOST_NAMES) → kept.graph.levels.issued ≡ 0
     → cutter.held ≡ [] → cutter.long ≡ false → cutter.taken ≡ 0 → cutter.stage ≡ Open → held ≡ [] → Played kept cutter held left left first first
 played_nothing kept cutter held left first stands added none short taken going empty = record {
   input = [];
@@ -169,7 +170,7 @@ pub played_line : (kept next : Kept) (cutter new : Cutter) (held left_held line 
     (left before now first sent written : Option (List ℕ)) (answer : Answer)
     → Turn kept cutter new held left before now first sent line → Answers kept next line answer
     → HasSent sent written (held ++ answer_text answer) left_held
-    → next.levels.issued ≤ kept.levels.issued + 1 → Played next new left_held left now first written
+    → next.graph.levels.issued ≤ kept.graph.levels.issued + most_raised → Played next new left_held left now first written
 played_line kept next cutter new held left_held line left before now first sent written answer turn answers tells added =
     let played = turn.played in
     let more = turn.more in

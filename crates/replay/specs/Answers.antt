@@ -7,10 +7,11 @@ use Rattle.graph_model.specs.Commands.{Command}
 use Rattle.graph_model.specs.Lines.{Meaning, Quiet, NoForm, Says}
 use Rattle.graph_model.specs.declared.names.Refusal.{Refusal}
 use Rattle.graph_model.specs.Refusals.{number_of}
-use Rattle.graph_model.specs.Replies.{Reply, Refused, Done, Ids, Number, Stands, Compared, Settled, Evicted, Built, Trimmed, picked_sum}
+use Rattle.graph_model.specs.Replies.{Reply, Refused, Done, Ids, Number, Stands, Compared, Settled, Evicted, Built, Trimmed, Unmined, picked_sum}
 use Rattle.graph_model.specs.Runs.{answer_text}
 use Rattle.graph_model.specs.Runs as runs
-use Rattle.tx_graph.specs.Kept.{Kept, MakesStep}
+use Rattle.tx_graph.specs.Kept as graphs
+use Rattle.reorg.specs.Kept.{Kept, MakesStep}
 use Rattle.replay.specs.declared.answer.Answer.{Answer}
 use Rattle.replay.specs.declared.answer.Answer.TheVariants as kept
 use Rattle.replay.specs.declared.answer.Outcome.{Outcome}
@@ -23,7 +24,11 @@ IsStepOf old new command answer = (reply : Reply) × MakesStep old new command r
 
 -- the command may be answered so, and leaves the graph as it is
 abbrev pub IsReadOf : Kept → Command → runs.Answer → Type 0
-IsReadOf graph = IsStepOf graph graph
+IsReadOf kept = IsStepOf kept kept
+
+-- the same of a graph alone
+abbrev pub IsReadOfGraph : graphs.Kept → Command → runs.Answer → Type 0
+IsReadOfGraph graph command answer = (reply : Reply) × graphs.MakesStep graph graph command reply × (answer ≡ runs.Replies reply)
 
 -- what a line means is answered so: a command by the reply of a step, and all else without a change of the graph
 abbrev pub AnswersMeaning : Meaning → Kept → Kept → runs.Answer → Type 0
@@ -46,6 +51,7 @@ Tells graph (kept.Settled verdict) found answer = answer ≡ runs.Replies (Settl
 Tells graph (kept.Evicted picked) found answer = answer ≡ runs.Replies (Evicted (picked_sum picked) picked.ids)
 Tells graph (kept.Block picked) found answer = answer ≡ runs.Replies (Built (picked_sum picked) picked.ids)
 Tells graph (kept.Trimmed picked) found answer = answer ≡ runs.Replies (Trimmed (picked_sum picked) picked.ids)
+Tells graph (kept.Unmined ids) found answer = answer ≡ runs.Replies (Unmined ids)
 Tells graph (kept.Reads reading) found answer = IsReadOf graph (reading_command reading) answer
 
 -- the answer where a request may be refused

@@ -11,7 +11,7 @@ use Rattle.graph_model.specs.Replies.{Reply}
 use Rattle.graph_model.specs.States.{PlainState, State, start, rate_of}
 use Rattle.graph_model.specs.Runs.{CommandsRun}
 use Rattle.graph_model.specs.Generators.{Summary, Summarizes, generated, is_refused, is_for_memory, summary_lines}
-use Rattle.tx_graph.specs.Kept.{Kept, StandsFor}
+use Rattle.reorg.specs.Kept.{Kept, StandsFor}
 use Rattle.replay.specs.declared.session.TheConstants.{MOST_NAMES}
 use Rattle.replay.specs.declared.tally.Tally.{Tally}
 use Rattle.replay.specs.declared.totals.Totals.{Totals}

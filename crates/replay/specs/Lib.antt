@@ -1,4 +1,5 @@
 pub mod Requests
+pub mod Pools
 pub mod Answers
 pub mod Sessions
 pub mod Inputs

@@ -42,6 +42,7 @@ asked (requests.Change change) ids = Says (change_command change)
 asked requests.Mine ids = Says (commands.Mine ids)
 asked requests.Evict ids = Says commands.Evict
 asked requests.Trim ids = Says commands.Trim
+asked requests.Unmine ids = Says commands.Unmine
 asked (requests.Block size) ids = Says (commands.Block size)
 asked (requests.Search search) ids = Says (search_command search)
 asked (requests.Count level) ids = Says (commands.Count level)

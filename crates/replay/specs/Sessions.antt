@@ -6,7 +6,7 @@ use Rattle.graph_model.specs.Commands.{Command}
 use Rattle.graph_model.specs.Lines.{Means, Quiet, Says, NoForm, max_line}
 use Rattle.graph_model.specs.Runs.{Answer, Silence, Unread, Replies, LineStep}
 use Rattle.graph_model.specs.Runs as runs
-use Rattle.tx_graph.specs.Kept.{Kept, StandsFor}
+use Rattle.reorg.specs.Kept.{Kept, StandsFor}
 use Rattle.replay.specs.declared.session.Piece.{Piece}
 use Rattle.replay.specs.declared.session.Piece.TheVariants.{Whole, TooLong}
 

@@ -8,7 +8,7 @@ ghost use Rattle.replay.specs.Answers.{Tells, WritesAnswer};
 use crate::commands::Obeys;
 use crate::reading::Reading;
 use fee_rate::Sum;
-use graph_model::{Picked, Place, Refusal, TxId, Verdict};
+use graph_model::{IdList, Picked, Place, Refusal, TxId, Verdict};
 use outside::{Failed, Sink};
 use wire::{place_word, settled_words, verdict_word, write_ids, write_refusal, write_word};
 
@@ -46,6 +46,8 @@ pub(crate) enum Answer {
     Block(Picked),
     /// what was trimmed from the top level
     Trimmed(Picked),
+    /// what came back of the latest block
+    Unmined(IdList),
     /// what the graph is read for as it is written
     Reads(Reading),
 }
@@ -82,6 +84,9 @@ impl Answer {
             Answer::Block(picked) => told(write_picked(sink, "block", picked), Outcome::Accepted),
             Answer::Trimmed(picked) => {
                 told(write_picked(sink, "trimmed", picked), Outcome::Accepted)
+            }
+            Answer::Unmined(ids) => {
+                told(write_ids(sink, "unmined", None, ids.as_slice()), Outcome::Accepted)
             }
             Answer::Reads(reading) => graph.read(*reading, sink),
         }

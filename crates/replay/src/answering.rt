@@ -5,7 +5,7 @@ ghost use Rattle.graph_model.specs.States.{start};
 ghost use Rattle.replay.specs.declared.session.TheConstants.{MOST_NAMES};
 ghost use Rattle.outside.specs.Faults.{CountsFaults};
 ghost use Rattle.outside.specs.Transfers.{AppendsFront};
-ghost use Rattle.tx_graph.specs.Kept.{StandsFor};
+ghost use Rattle.reorg.specs.Kept.{StandsFor};
 ghost use Rattle.replay.specs.Cuts.{HasLine};
 ghost use Rattle.replay.specs.Gatherings.{Sends};
 ghost use Rattle.replay.specs.Inputs.{ReadFaults};
@@ -27,7 +27,7 @@ pub(crate) fn answer_lines<S: Source, K: Sink>(
     sink: &mut K,
 ) -> Result<End, Failed>
     requires fresh { StandsFor session.old (start MOST_NAMES) }
-    requires none_added { session.old.levels.issued ≡ 0 }
+    requires none_added { session.old.graph.levels.issued ≡ 0 }
     requires none_held { lines.old.held ≡ [] }
     requires none_dropped { lines.old.long ≡ false }
     requires none_taken { lines.old.taken ≡ 0 }

@@ -8,10 +8,11 @@ ghost use Rattle.graph_model.specs.Words.{spaced};
 ghost use Rattle.outside.specs.Transfers.{Writes};
 ghost use Rattle.wire.specs.Pieces.{sum_words};
 ghost use Rattle.wire.specs.Readings.{meaning_of};
-ghost use Rattle.tx_graph.specs.Kept.{StandsFor, MakesStep};
+ghost use Rattle.reorg.specs.Kept.{StandsFor, MakesStep};
 ghost use Rattle.replay.specs.declared.session.TheConstants.{MOST_NAMES};
 ghost use Rattle.replay.specs.Answers.{reply_outcome};
 ghost use Rattle.replay.specs.Generations.{IsPlayed, Generates, summary_of, summary_text};
+ghost use Rattle.replay.specs.Pools.{most_raised};
 ghost use Rattle.replay.specs.Statuses.{StatusFaults};
 ghost use Rattle.replay.specs.Writings.{GoesOnLines};
 
@@ -48,7 +49,7 @@ pub(crate) fn write_generated<K: Sink>(alloc: Global, seed: u64, count: u64, sin
 /// Answers the commands in a session that is fresh, and counts the answers.
 fn play(session: &mut Session<2>, seed: u64, count: u64) -> Tally
     requires fresh { StandsFor session.old (start MOST_NAMES) }
-    requires none_added { session.old.levels.issued ≡ 0 }
+    requires none_added { session.old.graph.levels.issued ≡ 0 }
     requires seed { seed < 2 ^ 31 }
     requires count { count ≤ 1000000 }
     ensures { IsPlayed seed count session.new result }
@@ -67,11 +68,11 @@ fn play(session: &mut Session<2>, seed: u64, count: u64) -> Tally
 
 /// Answers one command, whose reply goes nowhere.
 fn obey(session: &mut Session<2>, line: Line) -> Outcome
-    requires few { session.old.levels.issued < 2 ^ 64 - 1 }
+    requires few { session.old.graph.levels.issued + most_raised ≤ 2 ^ 64 - 1 }
     requires not_mine { line ≢ Line.Mine }
     ensures step { (command : Command) → meaning_of line [] ≡ Says command
         → (reply : Reply) × MakesStep session.old session.new command reply × (result ≡ reply_outcome reply) }
-    ensures additions { session.new.levels.issued ≤ session.old.levels.issued + 1 }
+    ensures additions { session.new.graph.levels.issued ≤ session.old.graph.levels.issued + most_raised }
 {
     match session.line(line, &mut SureSink::new()) {
         Ok(outcome) => outcome,

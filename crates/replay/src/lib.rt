@@ -20,6 +20,7 @@ mod generated;
 mod input;
 mod laws;
 mod lines;
+mod pool;
 mod reading;
 mod replies;
 mod request;

@@ -19,6 +19,8 @@ pub(crate) enum Request {
     Change(Change),
     /// that the names which the line lists go with a block
     Mine,
+    /// that the latest block comes back
+    Unmine,
     /// that the last part of main goes
     Evict,
     /// that the top level is cut back to its limits
@@ -69,13 +71,14 @@ impl From<Line> for Request {
         match line {
             Line::Quiet => Request::Silence,
             Line::Syntax => Request::Unread,
-            Line::Unmine | Line::Dump => Request::Unread,
+            Line::Dump => Request::Unread,
             Line::Limits(limits) => Request::Change(Change::Limits(limits)),
             Line::Add(id, fee, size) => Request::Change(Change::Add(id, fee, size)),
             Line::Dep(parent, child) => Request::Change(Change::Dep(parent, child)),
             Line::Fee(id, fee) => Request::Change(Change::Fee(id, fee)),
             Line::Remove(id) => Request::Change(Change::Remove(id)),
             Line::Mine => Request::Mine,
+            Line::Unmine => Request::Unmine,
             Line::Evict => Request::Evict,
             Line::Trim => Request::Trim,
             Line::Block(size) => Request::Block(size),

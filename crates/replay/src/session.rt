@@ -7,13 +7,13 @@ ghost use Rattle.wire.specs.Readings.{meaning_of};
 
 use crate::answer::Outcome;
 use crate::commands::{answer, answer_line};
+use crate::pool::Pool;
 use crate::replies::Replies;
 use crate::totals::{Totals, main_totals};
-use graph_model::{DEFAULT_LIMITS, IdBuf};
+use graph_model::IdBuf;
 use outside::{Failed, NoMemory, Sink};
 use std::alloc::Global;
 use std::marker::Model;
-use tx_graph::TxGraph;
 use wire::Line;
 
 /// The most names that the program can allow a cluster: 64 for each of the two words of its graph's sets.
@@ -36,32 +36,33 @@ pub enum Piece<'a> {
 #[derive(Drop)]
 pub struct Session<const W: usize> {
     alloc: Global,
-    graph: TxGraph<W>,
+    pool: Pool<W>,
     // the names that a line lists, and then those that its reading finds
     ids: IdBuf,
 }
 
 impl<const W: usize> Model for Session<W> {
-    ghost use Rattle.tx_graph.specs.Kept.{Kept, kept_code};
+    ghost use Rattle.reorg.specs.Kept.{Kept, kept_code};
     ghost use Rattle.replay.specs.Sessions.{HasRoom};
 
     ghost Value = { Kept };
 
     ghost coded = { kept_code };
 
-    ghost view = { λ a. a.graph };
+    ghost view = { λ a. a.pool };
 
     ghost invariant = { λ a. HasRoom W a.ids };
 }
 
 impl<const W: usize> Session<W> {
-    ghost use Rattle.tx_graph.specs.Kept.{Kept, StandsFor};
+    ghost use Rattle.reorg.specs.Kept.{Kept, StandsFor};
     ghost use Rattle.graphs.specs.declared.names.Level.TheVariants.{Main};
     ghost use Rattle.graph_model.specs.States.{State, start};
     ghost use Rattle.levels.specs.Levels.{IsWithin};
     ghost use Rattle.replay.specs.Answers.{AnswersMeaning, outcome_of};
     ghost use Rattle.replay.specs.Generations.{AreTotals};
     ghost use Rattle.replay.specs.Gatherings.{Gathers};
+    ghost use Rattle.replay.specs.Pools.{most_raised};
     ghost use Rattle.replay.specs.Sessions.{IsLine, Answers, Suits};
 
     /// A session at the start: default limits, no names. Takes the room that readings need.
@@ -69,12 +70,12 @@ impl<const W: usize> Session<W> {
         requires wide { 1 ≤ W }
         requires narrow { W ≤ 2 }
         ensures start { IfOk result (λ session. StandsFor session (start (64 * W))) }
-        ensures additions { IfOk result (λ session. session.levels.issued ≡ 0) }
+        ensures additions { IfOk result (λ session. session.graph.levels.issued ≡ 0) }
     {
         Ok(Session {
             alloc,
             ids: IdBuf::new(alloc, MAX_NAMES)?,
-            graph: TxGraph::new(alloc, DEFAULT_LIMITS)?,
+            pool: Pool::new(alloc)?,
         })
     }
 
@@ -87,17 +88,17 @@ impl<const W: usize> Session<W> {
     /// How many additions were accepted. The session always stands for some state, so that what the
     /// other calls say of such states says something.
     pub fn additions(&self) -> u64
-        ensures additions { result ≡ self.now.levels.issued }
+        ensures additions { result ≡ self.now.graph.levels.issued }
         ensures stands { (state : State) × StandsFor self.now state }
     {
-        self.graph.additions()
+        self.pool.graph().additions()
     }
 
     /// Answers one line, and writes its reply to `sink`. The first write that fails ends it with
     /// `Failed`: the sink's faults rose by one then, and else they are as they were. At `Failed` a
     /// front of the reply was written, and the graph has changed all the same.
     pub fn one<K: Sink>(&mut self, piece: Piece<'_>, sink: &mut K) -> Result<Outcome, Failed>
-        requires { self.old.levels.issued < 2 ^ 64 - 1 }
+        requires { self.old.graph.levels.issued + most_raised ≤ 2 ^ 64 - 1 }
         // One line of a run: its answer, the state that follows, and what was written and told of it.
         ensures line { (line : List ℕ) → IsLine piece.entry line → (answer : runs.Answer)
             × Answers self.old self.new line answer
@@ -105,34 +106,34 @@ impl<const W: usize> Session<W> {
             (answer_text answer)
             × IfOk result (λ outcome. outcome ≡ outcome_of answer) × Suits line answer }
         ensures cause { CountsFaults (K.faults sink.old) (K.faults sink.new) result }
-        ensures additions { self.new.levels.issued ≤ self.old.levels.issued + 1 }
+        ensures additions { self.new.graph.levels.issued ≤ self.old.graph.levels.issued + most_raised }
     {
-        let found = answer(self.alloc, &mut self.graph, &mut self.ids, piece);
-        found.tell(&self.graph, self.ids.ids(), sink)
+        let found = answer(self.alloc, &mut self.pool, &mut self.ids, piece);
+        found.tell(&self.pool, self.ids.ids(), sink)
     }
 
     /// Answers what a line says that was read before, as `one` answers a line. It is no `mine`, whose names stand beside
     /// it.
     pub fn line<K: Sink>(&mut self, line: Line, sink: &mut K) -> Result<Outcome, Failed>
-        requires few { self.old.levels.issued < 2 ^ 64 - 1 }
+        requires few { self.old.graph.levels.issued + most_raised ≤ 2 ^ 64 - 1 }
         requires not_mine { line ≢ Line.Mine }
         ensures line { (answer : runs.Answer) × AnswersMeaning (meaning_of line []) self.old self.new answer
             × Writes (K.written sink.old) (K.written sink.new) (K.faults sink.old) (K.faults sink.new) result
             (answer_text answer)
             × IfOk result (λ outcome. outcome ≡ outcome_of answer) }
         ensures cause { CountsFaults (K.faults sink.old) (K.faults sink.new) result }
-        ensures additions { self.new.levels.issued ≤ self.old.levels.issued + 1 }
+        ensures additions { self.new.graph.levels.issued ≤ self.old.graph.levels.issued + most_raised }
     {
-        let found = answer_line(self.alloc, &mut self.graph, &mut self.ids, line);
-        found.tell(&self.graph, self.ids.ids(), sink)
+        let found = answer_line(self.alloc, &mut self.pool, &mut self.ids, line);
+        found.tell(&self.pool, self.ids.ids(), sink)
     }
 
     /// How much main has, which isn't oversized.
     pub(crate) fn totals(&self) -> Totals
-        requires { IsWithin self.now.levels Main }
+        requires { IsWithin self.now.graph.levels Main }
         ensures { (state : State) → StandsFor self.now state → AreTotals state.plain result }
     {
-        main_totals(&self.graph)
+        main_totals(self.pool.graph())
     }
 
     /// Answers one line as `one` does, where its reply gathers behind others before the sink.
@@ -142,14 +143,14 @@ impl<const W: usize> Session<W> {
         replies: &mut Replies,
         sink: &mut K,
     ) -> Result<Outcome, Failed>
-        requires { self.old.levels.issued < 2 ^ 64 - 1 }
+        requires { self.old.graph.levels.issued + most_raised ≤ 2 ^ 64 - 1 }
         ensures line { (line : List ℕ) → IsLine piece.entry line → (answer : runs.Answer)
             × Answers self.old self.new line answer
             × Gathers (K.written sink.old) (K.written sink.new) replies.old replies.new result (answer_text answer) }
         ensures cause { CountsFaults (K.faults sink.old) (K.faults sink.new) result }
-        ensures additions { self.new.levels.issued ≤ self.old.levels.issued + 1 }
+        ensures additions { self.new.graph.levels.issued ≤ self.old.graph.levels.issued + most_raised }
     {
-        let found = answer(self.alloc, &mut self.graph, &mut self.ids, piece);
-        replies.tell(&self.graph, &found, self.ids.ids(), sink)
+        let found = answer(self.alloc, &mut self.pool, &mut self.ids, piece);
+        replies.tell(&self.pool, &found, self.ids.ids(), sink)
     }
 }

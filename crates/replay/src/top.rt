@@ -3,7 +3,7 @@ ghost use Rattle.graph_model.specs.States.{start};
 ghost use Rattle.replay.specs.declared.session.TheConstants.{MOST_NAMES};
 ghost use Rattle.graph_model.specs.Lines.{max_input};
 ghost use Rattle.outside.specs.Faults.{Rose};
-ghost use Rattle.tx_graph.specs.Kept.{StandsFor};
+ghost use Rattle.reorg.specs.Kept.{StandsFor};
 ghost use Rattle.replay.specs.Generations.{Generates};
 ghost use Rattle.replay.specs.Statuses.{AreReplay, AreCheck, AreGen, AreRefused, Replays, Refuses, SuitsWords, EndsWell, StatusFaults, end_status, status_code};
 ghost use Rattle.replay.specs.Checks.{Checks};
@@ -119,7 +119,7 @@ fn replay_in<S: Source, K: Sink>(
     sink: &mut K,
 ) -> Status
     requires fresh { StandsFor session.old (start MOST_NAMES) }
-    requires none_added { session.old.levels.issued ≡ 0 }
+    requires none_added { session.old.graph.levels.issued ≡ 0 }
     requires none_held { lines.old.held ≡ [] }
     requires none_dropped { lines.old.long ≡ false }
     requires none_taken { lines.old.taken ≡ 0 }

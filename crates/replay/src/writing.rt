@@ -8,7 +8,7 @@ ghost use Rattle.graph_model.specs.Words.{line_text};
 ghost use Rattle.outside.specs.Transfers.{Writes};
 ghost use Rattle.graph_model.specs.Texts.{chunk_line, edge_line, flow_line, part_lines};
 ghost use Rattle.cluster_store.specs.Lent.{lent};
-ghost use Rattle.replay.specs.Answers.{IsReadOf, WritesAnswer};
+ghost use Rattle.replay.specs.Answers.{IsReadOfGraph, WritesAnswer};
 ghost use Rattle.levels.specs.Levels.{IsWithin, level_at};
 ghost use Rattle.tx_graph.specs.Readings.{part_reply};
 ghost use Rattle.replay.specs.Writings.{GoesOnLines, ListsEach, ListsOwn, line_of, tx_line_of, edges_lines};
@@ -79,7 +79,7 @@ pub(crate) fn write_order<const W: usize, K: Sink>(
     level: Level,
     sink: &mut K,
 ) -> Result<Outcome, Failed>
-    ensures { WritesAnswer (IsReadOf graph.now (commands.Order level)) (K.written sink.old) (K.written sink.new)
+    ensures { WritesAnswer (IsReadOfGraph graph.now (commands.Order level)) (K.written sink.old) (K.written sink.new)
         (K.faults sink.old) (K.faults sink.new) result }
 {
     if graph.oversized(level) {
@@ -114,7 +114,7 @@ pub(crate) fn write_diagram<const W: usize, K: Sink>(
     level: Level,
     sink: &mut K,
 ) -> Result<Outcome, Failed>
-    ensures { WritesAnswer (IsReadOf graph.now (commands.Diagram level)) (K.written sink.old) (K.written sink.new)
+    ensures { WritesAnswer (IsReadOfGraph graph.now (commands.Diagram level)) (K.written sink.old) (K.written sink.new)
         (K.faults sink.old) (K.faults sink.new) result }
 {
     if graph.oversized(level) {
@@ -280,7 +280,7 @@ pub(crate) fn write_proof<const W: usize, K: Sink>(
     level: Level,
     sink: &mut K,
 ) -> Result<Outcome, Failed>
-    ensures { WritesAnswer (IsReadOf graph.now (commands.Proof level)) (K.written sink.old) (K.written sink.new)
+    ensures { WritesAnswer (IsReadOfGraph graph.now (commands.Proof level)) (K.written sink.old) (K.written sink.new)
         (K.faults sink.old) (K.faults sink.new) result }
 {
     if graph.oversized(level) {

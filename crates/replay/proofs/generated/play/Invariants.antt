@@ -1,4 +1,4 @@
-use Rattle.std.proofs.Common.{◌≡◌, ◌+◌, ◌-◌, ◌≤◌}
+use Rattle.std.proofs.Common.{◌≡◌, ◌+◌, ◌-◌, ◌*◌, ◌≤◌}
 use Rattle.replay.proofs.PlayLemmas.{Playing}
 use Rattle.replay.proofs.generated.play.Given as goal
 
@@ -6,7 +6,7 @@ use Rattle.replay.proofs.generated.play.Given as goal
 abbrev pub invariant-commands : goal.invariant-commands
 invariant-commands l = record {
   playing : Playing l.fn.seed l.fn.count l.session l.tally l.generator l.k;
-  few : l.session.levels.issued ≤ l.k;
+  few : l.session.graph.levels.issued ≤ 32766 * l.k;
   all : l.tally.accepted + l.tally.refused + l.tally.memory ≡ l.k;
   within : l.k ≤ l.fn.count;
 }

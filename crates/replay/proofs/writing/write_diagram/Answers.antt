@@ -2,7 +2,7 @@ use Rattle.std.proofs.Common.{map, codes, Ok, ◌∷◌, [], refl, inl, sym, sub
 use Rattle.graph_model.specs.Commands as commands
 use Rattle.graph_model.specs.Replies.{Points, point_line}
 use Rattle.graph_model.specs.Runs as runs
-use Rattle.replay.specs.Answers.{IsReadOf}
+use Rattle.replay.specs.Answers.{IsReadOfGraph}
 use Rattle.replay.proofs.RefusedLemmas.{reads_over, not_so}
 use Rattle.replay.proofs.WritingLemmas.{lines_on}
 use Rattle.replay.proofs.writing.write_diagram.Goals as goal
@@ -24,7 +24,7 @@ pub returns-then-oversized : goal.returns-then-oversized
 returns-then-oversized g c =
     let (answer, is, writes, outcome) = c.write_refused.ensures in (
       answer,
-      subst (IsReadOf c.args.graph.now (commands.Diagram c.args.level)) (sym is)
+      subst (IsReadOfGraph c.args.graph.now (commands.Diagram c.args.level)) (sym is)
           (reads_over c.args.graph.now (commands.Diagram c.args.level) c.args.level (λ state over. inl (over, refl))
           (λ state stands. (c.oversized.ensures.state state stands).0 c.if-oversized.true)),
       writes,

@@ -3,7 +3,7 @@ use Rattle.graph_model.specs.Commands as commands
 use Rattle.graph_model.specs.Replies.{Parts}
 use Rattle.graph_model.specs.Runs as runs
 use Rattle.graph_model.specs.Texts.{chunk_line}
-use Rattle.replay.specs.Answers.{IsReadOf}
+use Rattle.replay.specs.Answers.{IsReadOfGraph}
 use Rattle.replay.proofs.RefusedLemmas.{reads_over, not_so}
 use Rattle.replay.proofs.Rooms.{graph_room, stored_fits}
 use Rattle.replay.proofs.WritingLemmas.{lines_on}
@@ -25,7 +25,7 @@ pub returns-then-oversized : goal.returns-then-oversized
 returns-then-oversized g c =
     let (answer, is, writes, outcome) = c.write_refused.ensures in (
       answer,
-      subst (IsReadOf c.args.graph.now (commands.Order c.args.level)) (sym is)
+      subst (IsReadOfGraph c.args.graph.now (commands.Order c.args.level)) (sym is)
           (reads_over c.args.graph.now (commands.Order c.args.level) c.args.level (λ state over. inl (over, refl))
           (λ state stands. (c.oversized.ensures.state state stands).0 c.if-oversized.true)),
       writes,

@@ -9,7 +9,7 @@ use Rattle.graph_model.specs.Runs as runs
 use Rattle.graph_model.specs.Texts.{part_lines}
 use Rattle.levels.specs.Levels.{level_at}
 use Rattle.replay.specs.Writings.{ListsEach, tx_line_of, edges_lines}
-use Rattle.replay.specs.Answers.{IsReadOf}
+use Rattle.replay.specs.Answers.{IsReadOfGraph}
 use Rattle.replay.proofs.RefusedLemmas.{reads_over, not_so}
 use Rattle.replay.proofs.Rooms.{graph_room, stored_fits}
 use Rattle.replay.proofs.TextLemmas.{text_with, text_is, text_lines_are}
@@ -63,7 +63,7 @@ pub returns-then-oversized : goal.returns-then-oversized
 returns-then-oversized g c =
     let (answer, is, writes, outcome) = c.write_refused.ensures in (
       answer,
-      subst (IsReadOf c.args.graph.now (commands.Proof c.args.level)) (sym is)
+      subst (IsReadOfGraph c.args.graph.now (commands.Proof c.args.level)) (sym is)
           (reads_over c.args.graph.now (commands.Proof c.args.level) c.args.level (λ state over. inl (over, refl))
           (λ state stands. (c.oversized.ensures.state state stands).0 c.if-oversized.true)),
       writes,

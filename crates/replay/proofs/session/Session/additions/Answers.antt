@@ -1,6 +1,6 @@
 use Rattle.std.proofs.Common.{subst}
 use Rattle.graph_model.specs.States.{State}
-use Rattle.tx_graph.specs.Kept.{Kept, StandsFor}
+use Rattle.reorg.specs.Kept.{Kept, StandsFor}
 use Rattle.replay.proofs.SessionRoom.{graph_in_session}
 use Rattle.replay.proofs.session.Session.additions.Goals as goal
 

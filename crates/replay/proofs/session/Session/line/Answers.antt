@@ -1,38 +1,38 @@
 use Rattle.std.proofs.Common.{subst, sym, List, [], ℕ, ◌≡◌, ◌<◌, ◌≤◌, ◌+◌}
 use Rattle.graph_model.specs.Lines.{Meaning}
-use Rattle.tx_graph.specs.Kept.{Kept}
+use Rattle.reorg.specs.Kept.{Kept}
 use Rattle.wire.specs.Readings.{meaning_of}
 use Rattle.replay.specs.Answers.{Tells, AnswersMeaning}
 use Rattle.replay.proofs.PlayLemmas.{meaning_alone, none_mined}
-use Rattle.replay.proofs.SessionRoom.{graph_in_session}
+use Rattle.replay.proofs.SessionRoom.{pool_in_session}
 use Rattle.replay.proofs.session.Session.line.Goals as goal
 
 pub returns-clause-line : goal.returns-clause-line
 returns-clause-line g c =
     let told = c.tell.ensures in
     let ids : c.ids.result.now ≡ c.answer_line-found.new.ids.ids = c.ids.ensures in
-    let tells = subst (λ (names : List ℕ). Tells c.answer_line-found.new.graph c.answer_line-found.result names told.0) ids told.1 in
+    let tells = subst (λ (names : List ℕ). Tells c.answer_line-found.new.pool c.answer_line-found.result names told.0) ids told.1 in
     let answers = c.answer_line-found.ensures.answers told.0 tells in
     let alone =
-    subst (λ (m : Meaning). AnswersMeaning m c.self.inside.graph c.answer_line-found.new.graph told.0)
+    subst (λ (m : Meaning). AnswersMeaning m c.self.inside.pool c.answer_line-found.new.pool told.0)
     (meaning_alone c.args.line c.self.inside.ids.ids c.requires.not_mine) answers in (
       told.0,
-      subst (λ (k : Kept). AnswersMeaning (meaning_of c.args.line []) k c.answer_line-found.new.graph told.0) c.self.view_is alone,
+      subst (λ (k : Kept). AnswersMeaning (meaning_of c.args.line []) k c.answer_line-found.new.pool told.0) c.self.view_is alone,
       told.2,
       told.3,
     )
 
 pub answer_line-found-requires : goal.answer_line-found-requires
 answer_line-found-requires g c =
-    let few = subst (λ (k : Kept). k.levels.issued < 18446744073709551615) (sym c.self.view_is) c.requires.few in
-    (graph_in_session g.row.W assumption, (few, (c.self.invariant, none_mined c.args.line c.self.inside.ids.ids c.requires.not_mine)))
+    let few = subst (λ (k : Kept). k.graph.levels.issued + 32766 ≤ 18446744073709551615) (sym c.self.view_is) c.requires.few in
+    (pool_in_session g.row.W assumption, (few, (c.self.invariant, none_mined c.args.line c.self.inside.ids.ids c.requires.not_mine)))
 
 pub returns-clause-cause : goal.returns-clause-cause
 returns-clause-cause g c = c.tell.ensures.2.cause
 
 pub returns-clause-additions : goal.returns-clause-additions
 returns-clause-additions g c =
-    subst (λ (k : Kept). c.answer_line-found.new.graph.levels.issued ≤ k.levels.issued + 1) c.self.view_is c.answer_line-found.ensures.additions
+    subst (λ (k : Kept). c.answer_line-found.new.pool.graph.levels.issued ≤ k.graph.levels.issued + 32766) c.self.view_is c.answer_line-found.ensures.additions
 
 pub tell-requires-room-G-Obeys : goal.tell-requires-room-G-Obeys
-tell-requires-room-G-Obeys g c = λ κs below. graph_in_session g.row.W assumption
+tell-requires-room-G-Obeys g c = λ κs below. pool_in_session g.row.W assumption

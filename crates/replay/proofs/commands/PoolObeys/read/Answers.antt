@@ -1,5 +1,5 @@
 use Rattle.tx_graph.specs.Readings.{part_reply}
-use Rattle.replay.proofs.commands.TxGraphObeys.read.Goals as goal
+use Rattle.replay.proofs.commands.PoolObeys.read.Goals as goal
 
 pub returns-in-Order : goal.returns-in-Order
 returns-in-Order g c = rw c.in-Order.is c.write_order.ensures

@@ -5,7 +5,7 @@ use Rattle.graph_model.specs.Replies.{Built, Refused, picked_sum}
 use Rattle.graph_model.specs.declared.names.Refusal.TheVariants.{Memory}
 use Rattle.tx_graph.specs.Kept.{Kept, MakesStep}
 use Rattle.replay.proofs.RefusedLemmas.{refused_over}
-use Rattle.replay.proofs.commands.fill_block.Goals as goal
+use Rattle.replay.proofs.pool.fill_block.Goals as goal
 
 pub returns-in-Ok : goal.returns-in-Ok
 returns-in-Ok g c = record {

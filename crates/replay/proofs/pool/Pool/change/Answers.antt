@@ -1,0 +1,16 @@
+use Rattle.graph_model.specs.Replies.{change_reply}
+use Rattle.replay.specs.Requests.{change_command}
+use Rattle.replay.proofs.PoolLemmas.{pool_steps, pool_stays, change_leaves}
+use Rattle.replay.proofs.PoolRoom.{graph_in_pool}
+use Rattle.replay.proofs.pool.Pool.change.Goals as goal
+
+pub invariant_of-self : goal.invariant_of-self
+invariant_of-self g c =
+    pool_stays c.self.inside.graph c.make.new.graph c.self.inside.reorg (change_command c.args.change) (change_reply c.make.result) (change_leaves c.args.change) c.make.ensures.step c.self.invariant
+
+pub returns-clause-step : goal.returns-clause-step
+returns-clause-step g c =
+    pool_steps c.self.inside.graph c.make.new.graph c.self.inside.reorg c.args.self.now (change_command c.args.change) (change_reply c.make.result) (change_leaves c.args.change) c.self.view_is c.make.ensures.step
+
+pub make-requires : goal.make-requires
+make-requires g c = graph_in_pool g.row.W assumption

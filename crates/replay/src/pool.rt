@@ -1,0 +1,187 @@
+//! What a session keeps of transactions: a graph, and the mined blocks of its main that can be taken back. Each call is the graph's, and
+//! leaves the blocks, but for those that mine a block and take one back.
+ghost use Rattle.std.specs.Prelude.{◌≡◌, ◌≢◌, [], ◌+◌, ◌-◌, ◌*◌, ◌^◌, ◌<◌, ◌≤◌, length, IfOk};
+ghost use Rattle.graphs.specs.declared.names.Level.TheVariants.{Main};
+ghost use Rattle.graph_model.specs.Commands.{Before, Block, Compare, Count, Evict, Mine, Settle, Trim, Unmine};
+ghost use Rattle.graph_model.specs.Replies.{Number, built_reply, change_reply, evicted_reply, names_reply, trimmed_reply};
+ghost use Rattle.graph_model.specs.States.{State, start};
+ghost use Rattle.tx_graph.specs.Kept as graphs;
+ghost use Rattle.tx_graph.specs.Readings.{compare_reply, place_reply, settle_reply};
+ghost use Rattle.reorg.specs.Kept.{MakesStep, StandsFor, unmined_reply};
+ghost use Rattle.replay.specs.Pools.{most_raised};
+ghost use Rattle.replay.specs.Requests.{change_command, search_command};
+
+use crate::request::{Change, Search};
+use block_builder::Builder;
+use eviction::evict;
+use graph_model::{DEFAULT_LIMITS, IdBuf, IdList, Level, Picked, Place, Refusal, TxId, Verdict};
+use outside::NoMemory;
+use reorg::Reorg;
+use std::alloc::Global;
+use std::marker::Model;
+use step_count::{Ledger, Steps};
+use trim::trim;
+use tx_graph::TxGraph;
+
+/// A graph, and the mined blocks of its main that can be taken back.
+#[derive(Drop)]
+pub(crate) struct Pool<const W: usize> {
+    graph: TxGraph<W>,
+    reorg: Reorg,
+}
+
+// Clauses see what the graph keeps, and the blocks. A block has no more names than a line may list, and there is a state that a pool
+// stands for.
+impl<const W: usize> Model for Pool<W> {
+    ghost use Rattle.reorg.specs.Kept.{Kept, kept_code};
+    ghost use Rattle.replay.specs.Pools.{IsPool};
+
+    ghost Value = { Kept };
+
+    ghost coded = { kept_code };
+
+    ghost view = { λ p. record { graph = p.graph; blocks = p.reorg } };
+
+    ghost invariant = { λ p. IsPool (record { graph = p.graph; blocks = p.reorg }) };
+}
+
+impl<const W: usize> Pool<W> {
+    /// A pool at the start: default limits, no names, no blocks.
+    pub(crate) fn new(alloc: Global) -> Result<Pool<W>, NoMemory>
+        requires wide { 1 ≤ W }
+        requires narrow { W ≤ 2 }
+        ensures start { IfOk result (λ pool. StandsFor pool (start (64 * W))) }
+        ensures additions { IfOk result (λ pool. pool.graph.levels.issued ≡ 0) }
+    {
+        Ok(Pool {
+            graph: TxGraph::new(alloc, DEFAULT_LIMITS)?,
+            reorg: Reorg::new(alloc),
+        })
+    }
+
+    /// The graph, to be read.
+    pub(crate) fn graph(&self) -> &TxGraph<W>
+        ensures graph { result.now ≡ self.now.graph }
+        ensures stands { (state : State) × StandsFor self.now state }
+    {
+        &self.graph
+    }
+
+    /// Makes a change of the graph.
+    pub(crate) fn change<L: Ledger>(
+        &mut self,
+        change: Change,
+        steps: &mut Steps<L>,
+    ) -> Result<(), Refusal>
+        requires few { self.old.graph.levels.issued < 2 ^ 64 - 1 }
+        ensures step { MakesStep self.old self.new (change_command change) (change_reply result) }
+        ensures additions { self.new.graph.levels.issued ≤ self.old.graph.levels.issued + 1 }
+    {
+        change.make(&mut self.graph, steps)
+    }
+
+    /// Takes the transactions of a mined block out of main.
+    pub(crate) fn mine<L: Ledger>(
+        &mut self,
+        ids: &[TxId],
+        steps: &mut Steps<L>,
+    ) -> Result<(), Refusal>
+        requires some { ids.now ≢ [] }
+        requires few { length ids.now ≤ most_raised }
+        ensures step { MakesStep self.old self.new (Mine ids.now) (change_reply result) }
+        ensures additions { self.new.graph.levels.issued ≡ self.old.graph.levels.issued }
+    {
+        self.reorg.mine(&mut self.graph, ids, steps)
+    }
+
+    /// Puts the transactions of the latest block back into main, and tells them.
+    pub(crate) fn unmine<L: Ledger>(&mut self, steps: &mut Steps<L>) -> Result<IdList, Refusal>
+        requires few { self.old.graph.levels.issued + most_raised ≤ 2 ^ 64 - 1 }
+        ensures step { MakesStep self.old self.new Unmine (unmined_reply result) }
+        ensures additions { self.new.graph.levels.issued ≤ self.old.graph.levels.issued + most_raised }
+    {
+        self.reorg.unmine(&mut self.graph, steps)
+    }
+
+    /// Drops the last part of main's order, and tells it.
+    pub(crate) fn evict<L: Ledger>(&mut self, steps: &mut Steps<L>) -> Result<Picked, Refusal>
+        ensures step { MakesStep self.old self.new Evict (evicted_reply result) }
+        ensures additions { self.new.graph.levels.issued ≡ self.old.graph.levels.issued }
+    {
+        evict(&mut self.graph, steps)
+    }
+
+    /// Cuts the top level back to its limits, and tells what is dropped.
+    pub(crate) fn trim<L: Ledger>(
+        &mut self,
+        alloc: Global,
+        steps: &mut Steps<L>,
+    ) -> Result<Picked, Refusal>
+        ensures step { MakesStep self.old self.new Trim (trimmed_reply result) }
+        ensures additions { self.new.graph.levels.issued ≡ self.old.graph.levels.issued }
+    {
+        trim(alloc, &mut self.graph, steps)
+    }
+
+    /// Closes the staging, and tells how it stood to main.
+    pub(crate) fn settle(&mut self) -> Result<Verdict, Refusal>
+        ensures step { MakesStep self.old self.new Settle (settle_reply result) }
+        ensures additions { self.new.graph.levels.issued ≡ self.old.graph.levels.issued }
+    {
+        self.graph.settle()
+    }
+
+    /// How staging stands to main.
+    pub(crate) fn compare(&self) -> Result<Verdict, Refusal>
+        ensures step { MakesStep self.now self.now Compare (compare_reply result) }
+    {
+        self.graph.compare()
+    }
+
+    /// Leaves the names that are looked for in `ids`, where there is room for those of a cluster.
+    pub(crate) fn find(&self, search: Search, ids: &mut IdBuf) -> Result<(), Refusal>
+        requires room { 64 * W ≤ length ids.old.ids + ids.old.room }
+        ensures step { MakesStep self.now self.now (search_command search) (names_reply result ids.new.ids) }
+        ensures room { length ids.new.ids + ids.new.room ≡ length ids.old.ids + ids.old.room }
+    {
+        search.find(&self.graph, ids)
+    }
+
+    /// How many names a level has.
+    pub(crate) fn count(&self, level: Level) -> u64
+        ensures step { MakesStep self.now self.now (Count level) (Number result) }
+    {
+        self.graph.count(level) as u64
+    }
+
+    /// Where one name stands to another in main's order.
+    pub(crate) fn before(&self, a: TxId, b: TxId) -> Result<Place, Refusal>
+        ensures step { MakesStep self.now self.now (Before a b) (place_reply result) }
+    {
+        self.graph.before(a, b)
+    }
+
+    /// The block of main of at most so many virtual bytes. Refuses where main is oversized.
+    pub(crate) fn block(&self, alloc: Global, size: u64) -> Result<Picked, Refusal>
+        ensures step { MakesStep self.now self.now (Block size) (built_reply result) }
+    {
+        fill_block(alloc, &self.graph, size)
+    }
+}
+
+/// The block of main of at most so many virtual bytes. Refuses where main is oversized.
+fn fill_block<const W: usize>(
+    alloc: Global,
+    graph: &TxGraph<W>,
+    size: u64,
+) -> Result<Picked, Refusal>
+    ensures step { graphs.MakesStep graph.now graph.now (Block size) (built_reply result) }
+{
+    if graph.oversized(Level::Main) {
+        return Err(Refusal::Oversized);
+    }
+    match Builder::new(alloc, graph).fill(size) {
+        Ok(picked) => Ok(picked),
+        Err(_) => Err(Refusal::Memory),
+    }
+}
