@@ -84,6 +84,4 @@ HasTypes command = Unit {0}
 
 -- The program does the command already. A line that spells another one is in no form, until its body is there.
 abbrev pub IsBuilt : Command → Type 0
-IsBuilt Unmine = ⊥
-IsBuilt Dump = ⊥
 IsBuilt command = Unit {0}

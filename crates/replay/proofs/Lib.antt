@@ -18,3 +18,5 @@ pub mod RefusedLemmas
 pub mod CornerLemmas
 pub mod SummaryLemmas
 pub mod AskedLemmas
+pub mod PoolLemmas
+pub mod PoolRoom

@@ -67,3 +67,4 @@ reading_leaves (readings.Order level) = tt
 reading_leaves (readings.Diagram level) = tt
 reading_leaves (readings.Proof level) = tt
 reading_leaves (readings.Chunk id) = tt
+reading_leaves readings.Dump = tt

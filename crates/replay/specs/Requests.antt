@@ -33,6 +33,7 @@ reading_command (readings.Order level) = commands.Order level
 reading_command (readings.Diagram level) = commands.Diagram level
 reading_command (readings.Proof level) = commands.Proof level
 reading_command (readings.Chunk id) = commands.Chunk id
+reading_command readings.Dump = commands.Dump
 
 -- what a line means that asks for this, where it lists these names
 abbrev pub asked : Request → List ℕ → Meaning

@@ -11,7 +11,7 @@ use crate::pool::Pool;
 use crate::reading::Reading;
 use crate::request::Request;
 use crate::session::Piece;
-use crate::writing::{write_diagram, write_order, write_part, write_proof};
+use crate::writing::{write_diagram, write_dump, write_order, write_part, write_proof};
 use graph_model::{IdBuf, MAX_LINE, Refusal};
 use outside::{Failed, Sink};
 use std::alloc::Global;
@@ -137,6 +137,7 @@ impl<const W: usize> Obeys for Pool<W> {
             Reading::Diagram(level) => write_diagram(self.graph(), level, sink),
             Reading::Proof(level) => write_proof(self.graph(), level, sink),
             Reading::Chunk(id) => write_part(self.graph().chunk(id), sink),
+            Reading::Dump => write_dump(self.alloc(), self.graph(), sink),
         }
     }
 }

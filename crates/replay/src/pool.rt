@@ -26,6 +26,7 @@ use tx_graph::TxGraph;
 /// A graph, and the mined blocks of its main that can be taken back.
 #[derive(Drop)]
 pub(crate) struct Pool<const W: usize> {
+    alloc: Global,
     graph: TxGraph<W>,
     reorg: Reorg,
 }
@@ -54,6 +55,7 @@ impl<const W: usize> Pool<W> {
         ensures additions { IfOk result (λ pool. pool.graph.levels.issued ≡ 0) }
     {
         Ok(Pool {
+            alloc,
             graph: TxGraph::new(alloc, DEFAULT_LIMITS)?,
             reorg: Reorg::new(alloc),
         })
@@ -65,6 +67,12 @@ impl<const W: usize> Pool<W> {
         ensures stands { (state : State) × StandsFor self.now state }
     {
         &self.graph
+    }
+
+    /// What memory comes from.
+    pub(crate) fn alloc(&self) -> Global {
+        let _graph = &self.graph;
+        self.alloc
     }
 
     /// Makes a change of the graph.

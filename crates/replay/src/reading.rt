@@ -7,4 +7,5 @@ pub(crate) enum Reading {
     Diagram(Level),
     Proof(Level),
     Chunk(TxId),
+    Dump,
 }

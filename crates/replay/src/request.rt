@@ -71,7 +71,6 @@ impl From<Line> for Request {
         match line {
             Line::Quiet => Request::Silence,
             Line::Syntax => Request::Unread,
-            Line::Dump => Request::Unread,
             Line::Limits(limits) => Request::Change(Change::Limits(limits)),
             Line::Add(id, fee, size) => Request::Change(Change::Add(id, fee, size)),
             Line::Dep(parent, child) => Request::Change(Change::Dep(parent, child)),
@@ -96,6 +95,7 @@ impl From<Line> for Request {
             Line::Diagram(level) => Request::Read(Reading::Diagram(level)),
             Line::Proof(level) => Request::Read(Reading::Proof(level)),
             Line::Chunk(id) => Request::Read(Reading::Chunk(id)),
+            Line::Dump => Request::Read(Reading::Dump),
         }
     }
 }

@@ -14,9 +14,11 @@ ghost use Rattle.tx_graph.specs.Readings.{part_reply};
 ghost use Rattle.replay.specs.Writings.{GoesOnLines, ListsEach, ListsOwn, line_of, tx_line_of, edges_lines};
 
 use crate::answer::{Outcome, told};
+use dump::text;
 use fee_rate::{FeeRate, Sum};
 use graph_model::{Flow, Level, Refusal, TxId};
 use outside::{Failed, Sink};
+use std::alloc::Global;
 use tx_graph::{Component, Covers, Order, PartRef, TxGraph};
 use wire::{write_chunk, write_edge, write_flow, write_point, write_refusal, write_tx, write_word};
 
@@ -290,4 +292,19 @@ pub(crate) fn write_proof<const W: usize, K: Sink>(
     let so_far = more_all_edges(so_far, graph, level, sink);
     let so_far = more_parts(so_far, graph.order(level), sink);
     told(more(so_far, Line::End, sink), Outcome::Accepted)
+}
+
+/// Writes the reply to `dump`: the text of main, which is made whole before its first byte goes out; or the refusal.
+pub(crate) fn write_dump<const W: usize, K: Sink>(
+    alloc: Global,
+    graph: &TxGraph<W>,
+    sink: &mut K,
+) -> Result<Outcome, Failed>
+    ensures { WritesAnswer (IsReadOfGraph graph.now commands.Dump) (K.written sink.old) (K.written sink.new)
+        (K.faults sink.old) (K.faults sink.new) result }
+{
+    match text(alloc, graph) {
+        Ok(text) => told(sink.write_all(text.as_slice()), Outcome::Accepted),
+        Err(why) => write_refused(why, sink),
+    }
 }

@@ -38,8 +38,6 @@ said_by lines.Dump ids = Says commands.Dump
 
 -- The meaning as far as the program does commands: a line of one that isn't built yet is in no form. These rows go with the bodies.
 abbrev pub meaning_of : Line → List ℕ → Meaning
-meaning_of lines.Unmine ids = NoForm
-meaning_of lines.Dump ids = NoForm
 meaning_of line ids = said_by line ids
 
 -- a text that isn't quiet says this, also where the command isn't built
