@@ -10,3 +10,4 @@ pub mod Kept
 pub mod Rates
 pub mod Tops
 pub mod Unordered
+pub mod Overs

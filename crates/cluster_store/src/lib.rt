@@ -12,6 +12,7 @@ mod entries;
 mod held;
 mod laws;
 mod least;
+mod over_walk;
 mod rate_walk;
 mod rebuilding;
 mod settling;
@@ -25,6 +26,7 @@ pub use held::HeldWalk;
 pub use laws::{
     levels_are_picked, orders_are_kept, parts_are_told_by_clusters, parts_stand_in_order,
 };
+pub use over_walk::{MayLack, OverWalk};
 pub use rate_walk::RateWalk;
 pub use store::ClusterStore;
 pub use stored::{Exchange, Made, Stored};

@@ -10,11 +10,13 @@ ghost use Rattle.cluster_store.specs.Rates.{IsTail};
 ghost use Rattle.cluster_store.specs.Changes.{AreHeld, EndsAt, ExchangesEach, lowest_in, most_least, settled};
 ghost use Rattle.cluster_store.specs.Tops.{MayLeave, TopChanges};
 ghost use Rattle.cluster_store.specs.Unordered.{LacksOrder};
+ghost use Rattle.cluster_store.specs.Overs.{AreLacking};
 
 use crate::ancestry::{lacks, reaches};
 use crate::clusters::{cluster_of, entry_at, exchange_all, tag_of};
 use crate::held::HeldWalk;
 use crate::least::{lowest_exchanged, lowest_of_all, lowest_of_last};
+use crate::over_walk::OverWalk;
 use crate::rate_walk::RateWalk;
 use crate::rebuilding::rebuild;
 use crate::settling::settle;
@@ -107,6 +109,14 @@ impl<const W: usize> ClusterStore<W> {
         ensures { IsTrue result ↔ LacksOrder level self.now.clusters }
     {
         lacks_order(&self.slots, &self.over, level)
+    }
+
+    /// The clusters of a level that have no order, each once and lent as its links. Takes no memory, and costs nothing where every cluster
+    /// has an order.
+    pub fn walk_over(&self, level: Level) -> OverWalk<'_, Stored<W>>
+        ensures { AreLacking level self.now.clusters result }
+    {
+        OverWalk::new(&self.slots, self.over.as_slice(), level)
     }
 
     /// Whether a name of a cluster is an ancestor of another. The cluster of the number has both. Takes no memory.
