@@ -41,3 +41,4 @@ pub mod Turning
 pub mod Listing
 pub mod Callers
 pub mod Lacking
+pub mod Overs
