@@ -16,6 +16,7 @@ mod Fewer
 mod Finds
 mod Fitting
 mod Oversizing
+mod Overs
 mod Firsts
 mod Following
 mod Forgetting

@@ -18,12 +18,13 @@ ghost use Rattle.levels.specs.Levels.{IsBest};
 ghost use Rattle.levels.specs.Orders.{ComparesParts, ListsCovers, sums_of};
 ghost use Rattle.levels.specs.Places.{HasPart};
 ghost use Rattle.levels.specs.Oversize.{IsOversized};
+ghost use Rattle.levels.specs.Overs.{LendsOvers};
 ghost use Rattle.levels.specs.Shelves.{HaveFew, IsInOrder, numbers_at, one_of};
 ghost use Rattle.levels.specs.Views.{HaveClusterNumbers};
 
 use crate::shelves::Shelves;
 use cluster::PartRef;
-use cluster_store::{HeldWalk, PartWalk, RateWalk, Stored};
+use cluster_store::{HeldWalk, OverWalk, PartWalk, RateWalk, Stored};
 use component::Covers;
 use graph_model::{Level, Place, TxId, Verdict};
 
@@ -53,6 +54,14 @@ impl<const W: usize> Shelves<W> {
         ensures clusters { (h : Held) → Contains result h → IsHeldIn (one_of level self.now) h }
     {
         self.store().walk_held(level)
+    }
+
+    /// The components of a level that are over the limits.
+    pub(crate) fn overs(&self, level: Level) -> OverWalk<'_, Stored<W>>
+        requires order { IsInOrder W self.now }
+        ensures { LendsOvers self.now.limits (one_of level self.now).graph result }
+    {
+        self.store().walk_over(level)
     }
 
     /// A size, in virtual bytes, that no name of main is below.
