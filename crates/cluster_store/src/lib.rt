@@ -4,6 +4,9 @@
 //! that stand in it. The clusters are kept in a slab, their parts in an index in which the serial of an entry is the number of
 //! its cluster. One call makes every change of the top level: first what comes in goes in, and where there is no memory for it,
 //! that comes out again; only then go clusters and entries out, which can't fail.
+//!
+//! The numbers of the clusters without an order are listed apart, and perhaps some that have one again or are gone. So whether a level
+//! lacks an order, and which of its clusters do, is told from that list.
 #![tactic(auto)]
 
 mod ancestry;

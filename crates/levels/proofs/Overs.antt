@@ -64,7 +64,7 @@ module _ (w : ℕ) (level : Level) (shelf : Shelf) (order : IsInOrder w shelf) (
   told : (l : Links) → Contains list l → (n : ℕ) × (seen_at level shelf.store.clusters n ≡ Some (unordered l))
   told l here =
       let found = map-Contains cluster_at lacking.numbers (unordered l) (subst (λ (cs : List Cluster). Contains cs (unordered l)) same
-          (Contains-map unordered list l here)) in
+      (Contains-map unordered list l here)) in
       (found.0, (stands found.0 found.1).0 ∙ ap (λ (c : Cluster). Some c) found.2)
 
   is_links : (l : Links) → Contains list l → IsLinksOf known l
@@ -109,7 +109,7 @@ module _ (w : ℕ) (level : Level) (shelf : Shelf) (order : IsInOrder w shelf) (
       let at = seen_of level (finmap.get shelf.store.clusters found.0) found.1 found.2 in
       let is : cluster_at found.0 ≡ found.1 = ap cluster_in at.1 ∙ at.2 in
       let l = map-Contains unordered list (cluster_at found.0) (subst (λ (cs : List Cluster). Contains cs (cluster_at found.0)) (sym same)
-          (Contains-map cluster_at lacking.numbers found.0 number)) in
+      (Contains-map cluster_at lacking.numbers found.0 number)) in
       (l.0, l.1, λ id here. subst (λ (c : Cluster). Contains c.names id) (sym (l.2 ∙ is)) (found.4 id here))
 
   are_overs : AreOvers shelf.limits known list

@@ -150,8 +150,7 @@ module _ (w : ℕ) (level : Level) (shelf : Shelf) (order : IsInOrder w shelf) w
       let is_over : IsOver shelf.limits c = elim over [
         | inl many ↦ inl (let few = less.0 in omega (arith, many, few))
         | inr large ↦ inr (let few = less.1 in omega (arith, large, few, same))
-      ] in
-      (
+      ] in (
         at.0,
         c,
         at.2.there,
