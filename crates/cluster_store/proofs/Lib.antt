@@ -42,3 +42,4 @@ pub mod Listing
 pub mod Callers
 pub mod Lacking
 pub mod Overs
+pub mod Names

@@ -11,3 +11,4 @@ pub mod Rates
 pub mod Tops
 pub mod Unordered
 pub mod Overs
+pub mod Names

@@ -15,6 +15,7 @@ mod entries;
 mod held;
 mod laws;
 mod least;
+mod name_walk;
 mod over_walk;
 mod rate_walk;
 mod rebuilding;
@@ -29,6 +30,7 @@ pub use held::HeldWalk;
 pub use laws::{
     levels_are_picked, orders_are_kept, parts_are_told_by_clusters, parts_stand_in_order,
 };
+pub use name_walk::{HasNames, NameWalk};
 pub use over_walk::{MayLack, OverWalk};
 pub use rate_walk::RateWalk;
 pub use store::ClusterStore;
