@@ -30,6 +30,7 @@ mod Listed
 mod Lookups
 mod Losing
 mod Making
+mod Members
 mod Mined
 mod Most
 mod Naming

@@ -33,7 +33,7 @@ use crate::moving::{add_name, connect, drop_names};
 use crate::settling::settle_rings;
 use crate::shelves::Shelves;
 use cluster::PartRef;
-use cluster_store::{HeldWalk, OverWalk, PartWalk, RateWalk, Stored};
+use cluster_store::{HeldWalk, NameWalk, OverWalk, PartWalk, RateWalk, Stored};
 use component::{Component, Covers, Work};
 use fee_rate::FeeRate;
 use graph_model::{Level, Limits, Place, Refusal, TxId, Verdict};
@@ -401,6 +401,16 @@ impl<const W: usize> Levels<W> {
     {
         let _count = self.mains;
         self.shelves.overs(level)
+    }
+
+    /// The names of a level, each once, one component after the other. Takes no memory. It costs the components of both levels, and the
+    /// names of this one.
+    pub fn names(&self, level: Level) -> NameWalk<'_, Stored<W>>
+        ensures names { (id : ℕ) → Contains result id ↔ (is_member (level_at self.now level).graph id ≡ true) }
+        ensures once { AreDistinct result }
+    {
+        let _count = self.mains;
+        self.shelves.names(level)
     }
 
     /// A size, in virtual bytes, that no name of main is below. Takes no memory.

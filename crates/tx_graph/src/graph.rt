@@ -1,5 +1,6 @@
 ghost use Rattle.std.specs.Prelude.{◌≡◌, ◌≢◌, ℕ, ℤ, ◌+◌, ◌-◌, ◌*◌, ◌^◌, ◌<◌, ◌≤◌, ◌⊎◌, ◌↔◌, true, None, Some, List, [], ◌∷◌, length, map, option_map, is_ok, if◌then◌else◌, IsSome, IsTrue, IfOk, IfErr, OnErr, MatchResult, Contains};
 ghost use Rattle.std.specs.FinMap as finmap;
+ghost use Rattle.lists.specs.Distinct.{AreDistinct};
 ghost use Rattle.std.specs.Iterator.{IsFinite};
 ghost use Rattle.std.specs.Iterator.Adapters.{rev_source};
 ghost use Rattle.graphs.specs.Closures.{is_member, is_ancestor, rate_of, AreLinked};
@@ -36,7 +37,7 @@ ghost use Rattle.tx_graph.specs.Dropped.{AreOfClusters, ArePaidBySize, IsBlockOf
 ghost use Rattle.tx_graph.specs.Readings.{AreMinimalIn, CompareRefusalIs, IsBestOrder, IsTextOf, NameRefusalIs, part_reply, place_reply, compare_reply, settle_reply};
 ghost use Rattle.levels.specs.Stays.{AllStay};
 
-use crate::order::{Diagram, Forward, Held, Numbered, Order, OrderBack, Over};
+use crate::order::{Diagram, Forward, Held, Names, Numbered, Order, OrderBack, Over};
 use cluster::PartRef;
 use component::{Component, Covers};
 use diagram::corners;
@@ -238,6 +239,15 @@ impl<const W: usize> TxGraph<W> {
         ensures components { LendsOvers self.now.levels.limits (level_at self.now.levels level).graph result }
     {
         self.levels.overs(level)
+    }
+
+    /// The transactions of a level, each once, in no order. Takes no memory. It costs the clusters of both levels, and the transactions of
+    /// this one.
+    pub fn names(&self, level: Level) -> Names<'_, W>
+        ensures names { (id : ℕ) → Contains result id ↔ (is_member (level_at self.now.levels level).graph id ≡ true) }
+        ensures once { AreDistinct result }
+    {
+        self.levels.names(level)
     }
 
     /// How many calls of [`add`](TxGraph::add) were accepted since the graph was made.

@@ -30,4 +30,4 @@ mod order;
 pub use cluster::PartRef;
 pub use component::{Component, Covers};
 pub use graph::TxGraph;
-pub use order::{Diagram, Forward, Held, Numbered, Order, OrderBack, Over};
+pub use order::{Diagram, Forward, Held, Names, Numbered, Order, OrderBack, Over};
