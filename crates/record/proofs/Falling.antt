@@ -49,7 +49,7 @@ module _ (old : Links) (parts : List Links) (are : AreLinks old) (each : (part :
   abbrev falls : FallsInto old parts
   falls = falls_into old parts are each comps
 
-  one_part : (p q : Links) (id : ℕ) → Contains parts p → Contains parts q → Has p id → Has q id → p ≡ q
+  pub one_part : (p q : Links) (id : ℕ) → Contains parts p → Contains parts q → Has p id → Has q id → p ≡ q
   one_part p q id first second here there =
       one_entry (λ (x y : Links). AreSplit (names_in x) (names_in y)) parts comps.apart p q first second (λ split. split id here there)
       (λ split. split id there here)
@@ -162,7 +162,7 @@ module _ (old : Links) (parts : List Links) (are : AreLinks old) (each : (part :
   -- ---- records of the parts
 
   module _ (records : List Cluster) (like : AreLike records parts) where
-    part_for : (c : Cluster) → Contains records c → (part : Links) × Contains parts part × (unordered part ≡ bare c)
+    pub part_for : (c : Cluster) → Contains records c → (part : Links) × Contains parts part × (unordered part ≡ bare c)
     part_for c here = map-Contains unordered parts (bare c) (subst (λ (cs : List Cluster). Contains cs (bare c)) like (Contains-map bare records c here))
 
     record_for : (part : Links) → Contains parts part → (c : Cluster) × Contains records c × (bare c ≡ unordered part)
