@@ -1,5 +1,5 @@
 -- The first of the components of links that is over the limits, by the first name of which it is.
-use Rattle.std.proofs.Common.{◌≡◌, ◌↔◌, ℕ, suc, zero, ◌+◌, ◌<◌, ◌≤◌, false, List, [], ◌∷◌, ◌++◌, length, get_or, Contains, Some, inl, inr, ◌⊎◌, refl, sym, ap, ◌∙◌, subst, arith, length-append}
+use Rattle.std.proofs.Common.{◌≡◌, ◌↔◌, ℕ, suc, zero, ◌-◌, ◌<◌, false, List, [], ◌∷◌, ◌++◌, length, get_or, Contains, Some, inl, inr, ◌⊎◌, refl, sym, ap, ◌∙◌, subst, arith, append_assoc, length-append}
 use Rattle.std.specs.Prelude.{slice_get, sum_by}
 use Rattle.std.specs.List.{AllPairs}
 use Rattle.std.proofs.lemmas.Bool.{cases_lt, cases_eq}
@@ -79,8 +79,8 @@ first_told P told (y ∷ ys) x here holds = elim (told y) [
 -- an entry after another stands at its place
 place_after : (front rest : List ℕ) (x : ℕ) (d : ℕ) → get_or (front ++ x ∷ rest) (length front) d ≡ x
 place_after front rest x d =
-    get_or-append_right front (x ∷ rest) (length front) (length front) d refl (omega arith)
-    ∙ ap (λ (k : ℕ). get_or (x ∷ rest) k d) (omega arith)
+    let none : length front - length front ≡ 0 = omega arith in
+    get_or-append_right front (x ∷ rest) (length front) (length front) d refl (omega arith) ∙ ap (λ (k : ℕ). get_or (x ∷ rest) k d) none
 
 -- ---- names of one component are told in one way
 
