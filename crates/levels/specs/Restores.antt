@@ -7,7 +7,7 @@ use Rattle.fee_rate.specs.declared.limits.TheConstants.{MAX_TOTAL}
 use Rattle.graphs.specs.declared.names.Level.TheVariants.{Top}
 use Rattle.graphs.specs.Certificates.{Txs}
 use Rattle.graphs.specs.Closing.{IsClosureOf}
-use Rattle.graphs.specs.Closures.{Closure, is_member, rate_of}
+use Rattle.graphs.specs.Closures.{Closure, is_ancestor, is_member, rate_of}
 use Rattle.graphs.specs.Graphs.{Graph, AreConnected, HasNoCycle, IsGraph, Lists}
 use Rattle.graph_model.specs.declared.names.Limits.{Limits}
 use Rattle.graph_model.specs.declared.names.Refusal.{Refusal}
@@ -41,10 +41,12 @@ pub record ComesOf (old : Closure) (txs : Txs) (pairs : List (ℕ × ℕ)) (next
   pub listed : (id : ℕ) (fee : ℤ) (n : ℕ) → Contains txs (id, fee, n) → size id ≡ n
   pub others : (id : ℕ) → Contains graph.names id → size id ≡ (rate_of old id).size
 
--- The closure of every graph that comes so. The transactions have their fees and sizes, and all other names what they had.
+-- The closure of every graph that comes so, which relates names alone. The transactions have their fees and sizes, and all other names what
+-- they had.
 pub record PutsTxs (old new : Closure) (txs : Txs) (pairs : List (ℕ × ℕ)) : Type 0 where
   pub members : (id : ℕ) → (is_member new id ≡ true) ↔ ((is_member old id ≡ true) ⊎ Contains (ids_of txs) id)
   pub graphs : (next : Graph) (size : ℕ → ℕ) → ComesOf old txs pairs next size → IsClosureOf new next
+  pub among : (a d : ℕ) → is_ancestor new a d ≡ true → (is_member new a ≡ true) × (is_member new d ≡ true)
   pub listed : (id : ℕ) (fee : ℤ) (size : ℕ) → Contains txs (id, fee, size) → rate_of new id ≡ record { fee = fee; size = size }
   pub others : (id : ℕ) → (Contains (ids_of txs) id → ⊥) → rate_of new id ≡ rate_of old id
 

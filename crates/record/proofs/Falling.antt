@@ -162,7 +162,7 @@ module _ (old : Links) (parts : List Links) (are : AreLinks old) (each : (part :
   -- ---- records of the parts
 
   module _ (records : List Cluster) (like : AreLike records parts) where
-    pub part_for : (c : Cluster) → Contains records c → (part : Links) × Contains parts part × (unordered part ≡ bare c)
+    part_for : (c : Cluster) → Contains records c → (part : Links) × Contains parts part × (unordered part ≡ bare c)
     part_for c here = map-Contains unordered parts (bare c) (subst (λ (cs : List Cluster). Contains cs (bare c)) like (Contains-map bare records c here))
 
     record_for : (part : Links) → Contains parts part → (c : Cluster) × Contains records c × (bare c ≡ unordered part)

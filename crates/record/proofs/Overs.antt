@@ -19,7 +19,6 @@ use Rattle.graph_model.specs.declared.names.Refusal.{Refusal}
 use Rattle.graph_model.specs.declared.names.Refusal.TheVariants.{ClusterSize}
 use Rattle.graph_model.specs.Limits.{Bounds, AreOver, bounds_of}
 use Rattle.graph_model.specs.Refusals.{IsFirst, ToldOver}
-use Rattle.cluster.specs.Clusters.{Cluster}
 use Rattle.links.specs.Links.{Links, AreLinks, Has}
 use Rattle.links.specs.Kept.{names_of}
 use Rattle.links.specs.Closing.{closure}
@@ -28,10 +27,9 @@ use Rattle.links.specs.Parts.{AreComponentsOf, StandsBefore}
 use Rattle.links.proofs.Changing.{has_member}
 use Rattle.links.proofs.Splitting.{falls_into}
 use Rattle.record.specs.Kept.{unordered}
-use Rattle.record.specs.Leaving.{AreLike, bare}
 use Rattle.record.specs.Records.{IsOver}
-use Rattle.record.specs.Restoring.{BringsOver, FirstOver, IsInOver, NoneOver, TellsOver, size_in}
-use Rattle.record.proofs.Falling.{names_in, one_of, one_part, part_for}
+use Rattle.record.specs.Restoring.{BringsNoneOver, BringsOver, FirstOver, IsInOver, NoneOver, TellsOver, size_in}
+use Rattle.record.proofs.Falling.{names_in, one_of, one_part}
 
 -- ---- lists
 
@@ -232,11 +230,7 @@ module _ (old : Links) (parts : List Links) (are : AreLinks old) (each : (part :
         comps_some : (part : Links) → Contains parts part → (x : ℕ) × Has part x
         comps_some part among = (one_of old parts are each comps part among).some
 
-  -- records of parts that are within the limits are within them
-  pub all_within : (records : List Cluster) → AreLike records parts → NoneOver limits parts (length parts) → (c : Cluster) → Contains records c
-      → IsOver limits c → ⊥
-  all_within records like none c here over =
-      let (part, among, is) = part_for old parts are each comps records like c here in
-      let at = placed parts part among in
-      none at.0 part (got parts at.0 part at.1).0 at.1
-      (subst (λ (d : Cluster). AreOver (bounds_of limits) (λ id. (rate_of d.graph id).size) d.names) (sym is) over)
+  -- where each part is within the limits, each name's component is
+  pub none_over : NoneOver limits parts (length parts) → BringsNoneOver limits old
+  none_over none id why here is =
+      let (k, part, among, at, has) = part_of id here in none k part (got parts k part at).0 at (in_over_part part among id has why is)

@@ -40,6 +40,10 @@ pub record BringsOver (limits : Limits) (links : Links) (why : Refusal) : Type 0
   pub first : IsFirst (λ before id. (any : Refusal) × IsInOver limits links id any) (names_of links.txs) id
   pub over : IsInOver limits links id why
 
+-- No name of these links has a component over the limits.
+abbrev pub BringsNoneOver : Limits → Links → Type 0
+BringsNoneOver limits links = (id : ℕ) (why : Refusal) → Contains (names_of links.txs) id → IsInOver limits links id why → ⊥
+
 -- ---- one component after the other
 
 -- links over the limits as a whole, and the refusal that tells them

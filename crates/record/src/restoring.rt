@@ -1,15 +1,14 @@
 //! Records that are made of others and of transactions that come in with dependencies.
-ghost use Rattle.std.specs.Prelude.{◌≡◌, ◌≢◌, ◌++◌, ℕ, ◌*◌, ◌≤◌, [], false, length, All, Contains, IfErr, IfOk, OnOk, MatchOption};
+ghost use Rattle.std.specs.Prelude.{◌≡◌, ◌≢◌, ◌++◌, ℕ, ◌*◌, ◌≤◌, [], false, length, All, IfErr, IfOk, OnOk, MatchOption};
 ghost use Rattle.fee_rate.specs.declared.limits.TheConstants.{MAX_TOTAL};
 ghost use Rattle.graph_model.specs.declared.names.Refusal.TheVariants.{Memory};
 ghost use Rattle.cluster.specs.Changes.{IsSplit};
-ghost use Rattle.cluster.specs.Clusters as clusters;
 ghost use Rattle.links.specs.Links.{AreLinks};
 ghost use Rattle.links.specs.Closing.{closure};
 ghost use Rattle.record.specs.Kept.{unordered};
 ghost use Rattle.record.specs.Leaving.{GrowsFor, IsOneComponent, IsWideFor};
 ghost use Rattle.record.specs.Records.{IsFitted, IsOver};
-ghost use Rattle.record.specs.Restoring.{BringsOver, FindsOver, PutsBehind, TellsOver};
+ghost use Rattle.record.specs.Restoring.{BringsNoneOver, BringsOver, FindsOver, PutsBehind, TellsOver};
 
 use crate::kept::Kept;
 use crate::leaving::{read_all, records_of};
@@ -66,8 +65,7 @@ impl<const W: usize> Record<W> {
         requires total { length links.now.txs ≤ MAX_TOTAL }
         ensures split { IfOk result (λ all. IsSplit (closure links.now) [] all.items) }
         ensures fitted { IfOk result (λ all. All (IsFitted (64 * W) limits.now) all.items) }
-        ensures within { IfOk result (λ all. limits.now.defer ≡ false
-            → (c : clusters.Cluster) → Contains all.items c → IsOver limits.now c → ⊥) }
+        ensures within { IfOk result (λ all. limits.now.defer ≡ false → BringsNoneOver limits.now links.now) }
         ensures over { IfErr result (λ why. why ≢ Memory → BringsOver limits.now links.now why) }
         ensures steps { GrowsFor limits.now (closure links.now) [] steps.old steps.new }
     {

@@ -5,7 +5,7 @@ use Rattle.links.specs.Links.{Links, AreLinks}
 use Rattle.record.specs.Leaving.{IsOneComponent}
 use Rattle.record.specs.Restoring.{FirstOver, NoneOver}
 use Rattle.record.proofs.Falling.{fallen_steps, like_split, parts_fine}
-use Rattle.record.proofs.Overs.{all_within, brings_over}
+use Rattle.record.proofs.Overs.{brings_over, none_over}
 use Rattle.record.proofs.record.Record.all_of.Goals as goal
 
 pub refused_over-requires : goal.refused_over-requires
@@ -48,8 +48,7 @@ returns-in-Ok-records_of-clause-within g c strict =
     let parts = c.in-Ok.parts.items in
     let each : (part : Links) → Contains parts part → AreLinks part =
     λ part here. c.read_all.ensures part (subst (λ (ps : List Links). Contains ps part) (sym c.as_slice.ensures.value) here) in
-    all_within c.args.links.now parts c.txs-txs.ensures.whole each c.in-Ok.ensures c.args.limits.now c.in-Ok-records_of.all.items
-    c.in-Ok-records_of.ensures.like
+    none_over c.args.links.now parts c.txs-txs.ensures.whole each c.in-Ok.ensures c.args.limits.now
     (subst (λ (ps : List Links). NoneOver c.args.limits.now ps (length ps)) c.as_slice-2.ensures.value (c.in_default-refused_over.ensures strict))
 
 pub returns-in-Ok-records_of-clause-steps : goal.returns-in-Ok-records_of-clause-steps
