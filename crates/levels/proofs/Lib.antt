@@ -71,3 +71,9 @@ mod Turning
 mod Under
 mod Unmoved
 mod Ways
+mod Collected
+mod Comings
+mod Overlimit
+mod Returned
+mod Gains
+mod Listing

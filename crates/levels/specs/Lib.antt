@@ -17,3 +17,5 @@ pub mod Shelves
 pub mod Stays
 pub mod Tops
 pub mod Views
+pub mod Restores
+pub mod Gathered

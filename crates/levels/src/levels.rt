@@ -24,12 +24,14 @@ ghost use Rattle.levels.specs.Joins.{DepRefusalIs};
 ghost use Rattle.levels.specs.Lefts.{DropsWithin};
 ghost use Rattle.levels.specs.Levels as specs_levels;
 ghost use Rattle.levels.specs.Mining.{MineRefusalIs};
+ghost use Rattle.levels.specs.Restores.{BringsNoneOver, BringsOver, MayRestore, PutsTxs, RestoresWithin};
 ghost use Rattle.levels.specs.Stays.{KeepsPicks};
 ghost use Rattle.graphs.specs.declared.names.Level as graph_level;
 ghost use Rattle.levels.specs.Views.{HaveClusterNumbers, IsClusterOf};
 
 use crate::mining::refused_mine;
 use crate::moving::{add_name, connect, drop_names};
+use crate::restoring::restore;
 use crate::settling::settle_rings;
 use crate::shelves::Shelves;
 use cluster::PartRef;
@@ -322,6 +324,42 @@ impl<const W: usize> Levels<W> {
         )?;
         self.tops -= ids.len();
         self.mains = main_count(self.shelves.is_staged(), self.mains, self.tops);
+        Ok(())
+    }
+
+    /// Puts transactions that are in no level into main, each with its fee in satoshis and its size in virtual bytes, with those of the pairs
+    /// (parent, child) whose child is then in main. There is no staging. Each cluster that is made is made once, in one change.
+    ///
+    /// Refused with `Count`, else `ClusterSize`, where no dependency may pass the limits and a cluster would be over them: of the first
+    /// transaction of which that is so it tells the number of the cluster's names where that is over, and else their total size. Refused
+    /// with `Memory` where there is none, also in place of those. All stays as it was then.
+    pub fn restore<L: Ledger>(
+        &mut self,
+        txs: &[(TxId, i64, u64)],
+        pairs: &[(TxId, TxId)],
+        steps: &mut Steps<L>,
+    ) -> Result<(), Refusal>
+        requires { MayRestore self.old txs.now pairs.now }
+        ensures restored { OnOk result (PutsTxs self.old.main.graph self.new.main.graph txs.now pairs.now
+            × (self.new ≡ record self.old { main = self.new.main; issued = self.old.issued + length txs.now })) }
+        ensures row { MatchResult result
+            (λ _. self.old.limits.defer ≡ false → BringsNoneOver self.old.limits self.old.main.graph txs.now pairs.now)
+            (λ why. why ≢ Memory → BringsOver self.old.limits self.old.main.graph txs.now pairs.now why) }
+        ensures kept { KeepsPicks self.old self.new }
+        ensures err { OnErr result (self.new ≡ self.old) }
+        ensures steps { RestoresWithin self.old.limits self.old.main.graph txs.now pairs.now steps.old steps.new }
+    {
+        restore(
+            &mut self.shelves,
+            &mut self.rings,
+            txs,
+            pairs,
+            &mut self.work,
+            steps,
+        )?;
+        self.issued += txs.len() as u64;
+        self.tops += txs.len();
+        self.mains = self.tops;
         Ok(())
     }
 

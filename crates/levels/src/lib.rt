@@ -18,6 +18,7 @@ mod moving;
 mod numbers;
 mod readings;
 mod relation;
+mod restoring;
 mod settling;
 mod shelves;
 mod stored;

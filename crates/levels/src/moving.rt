@@ -219,7 +219,7 @@ fn forget_lost<const W: usize>(shelves: &Shelves<W>, rings: &mut NameBook, ids: 
 }
 
 /// Makes rings of main of the names of some clusters, a ring of each.
-fn part_all<const W: usize>(rings: &mut NameBook, shelves: &Shelves<W>, list: &[usize])
+pub(crate) fn part_all<const W: usize>(rings: &mut NameBook, shelves: &Shelves<W>, list: &[usize])
     requires order { IsInOrder W shelves.now }
     requires clusters { (clusters : List records.Cluster) × AreAt (stored_at shelves.now.store.clusters) list.now clusters }
     requires live { (clusters : List records.Cluster) (x : ℕ) → AreAt (stored_at shelves.now.store.clusters) list.now clusters

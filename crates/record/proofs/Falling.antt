@@ -49,7 +49,7 @@ module _ (old : Links) (parts : List Links) (are : AreLinks old) (each : (part :
   abbrev falls : FallsInto old parts
   falls = falls_into old parts are each comps
 
-  one_part : (p q : Links) (id : ℕ) → Contains parts p → Contains parts q → Has p id → Has q id → p ≡ q
+  pub one_part : (p q : Links) (id : ℕ) → Contains parts p → Contains parts q → Has p id → Has q id → p ≡ q
   one_part p q id first second here there =
       one_entry (λ (x y : Links). AreSplit (names_in x) (names_in y)) parts comps.apart p q first second (λ split. split id here there)
       (λ split. split id there here)

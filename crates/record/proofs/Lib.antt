@@ -23,3 +23,4 @@ pub mod Following
 pub mod Sized
 pub mod Lost
 pub mod Listed
+pub mod Overs

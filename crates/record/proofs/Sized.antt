@@ -49,10 +49,10 @@ ordered_again most c s is whole before after grows =
 
 module _ (limits : Limits) (links : Links) (are : AreLinks links) (one two : Txs) (one_is : one ≡ links.txs) (two_is : two ≡ links.txs) (size : ℕ)
     (size_is : size ≡ sum_by (λ (tx : ℕ × ℤ × ℕ). tx.2) two) where
-  count_told : length one ≡ length (names_of links.txs)
+  pub count_told : length one ≡ length (names_of links.txs)
   count_told = ap (λ (txs : Txs). length txs) one_is ∙ sym (names_long links.txs)
 
-  all_told : size ≡ total_size (closure links) (names_of links.txs)
+  pub all_told : size ≡ total_size (closure links) (names_of links.txs)
   all_told = size_is ∙ ap (λ (txs : Txs). sum_by (λ (tx : ℕ × ℤ × ℕ). tx.2) txs) two_is ∙ size_told links are (unordered links) refl
 
   pub told_over : AreMore limits (length one) size → IsOver limits (unordered links)

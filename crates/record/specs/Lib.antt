@@ -5,3 +5,4 @@ pub mod Changes
 pub mod Solving
 pub mod Steps
 pub mod Leaving
+pub mod Restoring

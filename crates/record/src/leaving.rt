@@ -53,8 +53,8 @@ pub(crate) fn split_up<const W: usize, L: Ledger>(
     records_of(alloc, parts, limits, work, steps)
 }
 
-// What holds of each of these links.
-fn read_all(parts: &[Links])
+/// What holds of each of these links.
+pub(crate) fn read_all(parts: &[Links])
     ensures { (part : links_value) → Contains parts.now part → AreLinks part }
 {
     for at in 0..parts.len() {
@@ -62,8 +62,8 @@ fn read_all(parts: &[Links])
     }
 }
 
-// The records of links that are a component each.
-fn records_of<const W: usize, L: Ledger>(
+/// The records of links that are a component each.
+pub(crate) fn records_of<const W: usize, L: Ledger>(
     alloc: Global,
     parts: Vec<Links>,
     limits: &Limits,

@@ -17,6 +17,7 @@ mod listing;
 mod over;
 mod parts;
 mod record;
+mod restoring;
 mod solving;
 
 pub use listing::Listing;

@@ -375,7 +375,7 @@ pub(crate) fn names_of(alloc: Global, txs: &[(TxId, i64, u64)]) -> Result<Vec<Tx
 }
 
 // The total size of transactions, in virtual bytes.
-fn size_of(txs: &[(TxId, i64, u64)]) -> u64
+pub(crate) fn size_of(txs: &[(TxId, i64, u64)]) -> u64
     requires few { length txs.now ≤ MAX_TOTAL }
     requires in_range { AreInRange txs.now }
     ensures sum { result ≡ sum_by (λ tx. tx.2) txs.now }

@@ -85,7 +85,7 @@ counted levels ids lists others same = ap length (Lists-same (IsLive levels) ids
 pub one_count : (levels : Levels) (a b : ℕ) → CountsLive levels a → CountsLive levels b → a ≡ b
 one_count levels a b one other = let found = live_listed levels in one found.0 found.1 ∙ sym (other found.0 found.1)
 
-live_count : (levels : Levels) (table : Table) (live : ℕ) → HasRates levels table → CountsLive levels live → live ≡ finmap.len table
+pub live_count : (levels : Levels) (table : Table) (live : ℕ) → HasRates levels table → CountsLive levels live → live ≡ finmap.len table
 live_count levels table live rates counts =
     let keys = keys_listed table in
     counts keys.0 (Lists-for (λ q. finmap.contains_key table q ≡ true) (IsLive levels) keys.0

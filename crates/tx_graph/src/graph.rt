@@ -89,7 +89,7 @@ impl<const W: usize> Model for TxGraph<W> {
 }
 
 /// Whether a name is in main or in staging.
-fn is_live<const W: usize>(levels: &Levels<W>, id: TxId) -> bool
+pub(crate) fn is_live<const W: usize>(levels: &Levels<W>, id: TxId) -> bool
     ensures { IsTrue result ↔ IsLive levels.now id }
 {
     levels.has(Level::Main, id) || levels.has(Level::Top, id)

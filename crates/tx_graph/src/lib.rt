@@ -26,6 +26,7 @@
 mod graph;
 mod mining;
 mod order;
+mod restoring;
 
 pub use cluster::PartRef;
 pub use component::{Component, Covers};

@@ -1,6 +1,6 @@
 //! Transactions that leave a level several at once: a mined set and the last chunk leave main, and a set with all its descendants leaves the
 //! top level.
-ghost use Rattle.std.specs.Prelude.{◌≡◌, ◌≢◌, [], IfErr, IfOk, MatchResult};
+ghost use Rattle.std.specs.Prelude.{◌≡◌, ◌≢◌, [], None, Some, IfErr, IfOk, MatchResult};
 ghost use Rattle.graphs.specs.Certificates.{Part};
 ghost use Rattle.graphs.specs.declared.names.Level.TheVariants.{Top};
 ghost use Rattle.graph_model.specs.declared.names.Refusal.TheVariants.{Memory};
@@ -12,6 +12,7 @@ ghost use Rattle.levels.specs.Levels.{level_at};
 ghost use Rattle.levels.specs.Stays.{AllStay};
 ghost use Rattle.tx_graph.specs.Dropped.{DropsSet, IsLastOf, LastFails, MayGo};
 ghost use Rattle.tx_graph.specs.Kept.{Leads, MakesStep};
+ghost use Rattle.tx_graph.specs.Restored.{Meets};
 
 use crate::graph::TxGraph;
 use fee_rate::Sum;
@@ -21,6 +22,31 @@ use std::alloc::Global;
 use step_count::{Ledger, Steps};
 
 impl<const W: usize> TxGraph<W> {
+    /// Asks whether [`mine`](TxGraph::mine) would be refused for another reason than want of memory. The list isn't empty. The graph stays as
+    /// it was. Takes no memory, and solves nothing.
+    ///
+    /// # Errors
+    ///
+    /// Answers the first of these that holds:
+    ///
+    /// - [`Refusal::Staging`]: a staging is open.
+    /// - [`Refusal::Twice`], with the first listed transaction that stands earlier in the list too.
+    /// - [`Refusal::Unknown`], with the first listed transaction that main hasn't.
+    /// - [`Refusal::Parent`], with the first listed transaction that has an ancestor in main which isn't listed.
+    pub fn minable(&mut self, ids: &[TxId]) -> Result<(), Refusal>
+        requires { ids.now ≢ [] }
+        ensures row { MatchResult result (λ _. Meets self.old (Mine ids.now) None) (λ why. Meets self.old (Mine ids.now) (Some why)) }
+        ensures same { self.new ≡ self.old }
+    {
+        if self.levels.is_staged() {
+            return Err(Refusal::Staging);
+        }
+        match self.levels.refused_mine(ids) {
+            Some(why) => Err(why),
+            None => Ok(()),
+        }
+    }
+
     /// Takes transactions that were mined out of main, in any order, with their dependencies. The others keep the ancestors that they
     /// have among them. The list isn't empty.
     ///

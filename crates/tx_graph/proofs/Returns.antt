@@ -1,0 +1,230 @@
+-- Transactions that come into main of a plain state, and whether that brings a component over the limits.
+use Rattle.std.proofs.Common.{◌≡◌, ◌≢◌, ℕ, ℤ, suc, zero, ◌^◌, ◌<◌, ◌≤◌, true, false, Bool, List, [], ◌∷◌, ◌++◌, length, sym, refl, ap, subst, subst₂, ◌∙◌, inl, inr, ◌⊎◌, ◌↔◌, Option, None, Some, is_some, true≢false, arith}
+use Rattle.std.specs.Prelude.{Contains, sum_by}
+use Rattle.std.specs.FinMap as finmap
+use Rattle.std.proofs.lemmas.Bool.{cases_Bool, cases_lt}
+use Rattle.std.proofs.lemmas.List.Elements.{Contains-append_left, Contains-append_right, Contains-append_cases}
+use Rattle.arithmetic.proofs.Sums.{sum_by_along}
+use Rattle.lists.specs.Distinct.{AreDistinct}
+use Rattle.lists.proofs.Distinct.{distinct_joined}
+use Rattle.lists.proofs.Entries.{Contains-cases, Contains-head, Contains-later, Contains-map, first_of, map-Contains, none_in_empty, rest_of}
+use Rattle.lists.proofs.Told.{cases_pair, told_in, told_number}
+use Rattle.graphs.specs.Certificates.{Txs}
+use Rattle.graphs.specs.Graphs.{Graph, AreConnected, HasNoCycle, IsGraph, Lists}
+use Rattle.graphs.proofs.ListLemmas.{Lists-for, Lists-same}
+use Rattle.graph_model.specs.declared.names.Refusal.{Refusal}
+use Rattle.graph_model.specs.declared.names.Refusal.TheVariants.{ClusterSize, Count}
+use Rattle.graph_model.specs.Commands.{Unmine}
+use Rattle.graph_model.specs.Limits.{Bounds, AreOver}
+use Rattle.graph_model.specs.States.{Entry, PlainState, Table, size_in, size_of}
+use Rattle.graph_model.specs.Changes.{PutsNames, Restores, begun, ids_of}
+use Rattle.graph_model.specs.Refusals.{BringsOver, FirstOf, IsFirst, IsInOver, NoRefusal, ToldOver}
+use Rattle.graph_model.specs.Steps.{MayGiveWay}
+use Rattle.graph_model.specs.Validity.{IsValid}
+use Rattle.graph_model.proofs.BackLemmas.{graph_put}
+use Rattle.graph_model.proofs.FirstLemmas.{first_in}
+use Rattle.graph_model.proofs.LevelLemmas.{IsTold, connected_told, connects, one_pair, some_list, told_either_way}
+use Rattle.graph_model.proofs.RestoreLemmas.{CanCome, joined_name, over_told}
+use Rattle.graph_model.proofs.ValidLemmas.{get-put_other, get-put_same}
+use Rattle.tx_graph.specs.Restored.{MayLackMemory}
+
+-- ---- lists
+
+-- the entries of a list with a property that can be told, each once
+select : {A : Type 0} → ((x y : A) → (x ≡ y) ⊎ (x ≡ y → ⊥)) → (P : A → Type 0) → ((x : A) → P x ⊎ (P x → ⊥)) → (xs : List A)
+    → (ys : List A) × AreDistinct ys × ((x : A) → Contains ys x ↔ (Contains xs x × P x))
+select decide P told [] = ([], tt, λ x. (λ none. absurd (none_in_empty x none), λ both. absurd (none_in_empty x both.0)))
+select decide P told (x ∷ xs) =
+    let rest = select decide P told xs in
+    elim (told x) [
+      | inl holds ↦ elim (told_in decide rest.0 x) [
+        | inl there ↦ (rest.0, rest.1, λ y. (
+          λ here. let was = (rest.2 y).0 here in (Contains-later x y xs was.0, was.1),
+          λ both. elim (Contains-cases x y xs both.0) [ inl same ↦ subst (Contains rest.0) same there | inr later ↦ (rest.2 y).1 (later, both.1) ],
+        ))
+        | inr new ↦ (x ∷ rest.0, (new, rest.1), λ y. (
+          λ here. elim (Contains-cases x y rest.0 here) [
+            | inl same ↦ (subst (Contains (x ∷ xs)) same (Contains-head x xs), subst P same holds)
+            | inr later ↦ let was = (rest.2 y).0 later in (Contains-later x y xs was.0, was.1)
+          ],
+          λ both. elim (Contains-cases x y xs both.0) [
+            | inl same ↦ subst (Contains (x ∷ rest.0)) same (Contains-head x rest.0)
+            | inr later ↦ Contains-later x y rest.0 ((rest.2 y).1 (later, both.1))
+          ],
+        ))
+      ]
+      | inr fails ↦ (rest.0, rest.1, λ y. (
+        λ here. let was = (rest.2 y).0 here in (Contains-later x y xs was.0, was.1),
+        λ both. elim (Contains-cases x y xs both.0) [
+          | inl same ↦ absurd (fails (subst P (sym same) both.1))
+          | inr later ↦ (rest.2 y).1 (later, both.1)
+        ],
+      ))
+    ]
+
+-- the first entry with a property that can be told, or none has it
+first_or_none : (P : ℕ → Type 0) → ((x : ℕ) → P x ⊎ (P x → ⊥)) → (xs : List ℕ)
+    → ((id : ℕ) × IsFirst (λ before id. P id) xs id) ⊎ ((x : ℕ) → Contains xs x → P x → ⊥)
+first_or_none P told [] = inr (λ x none. absurd (none_in_empty x none))
+first_or_none P told (y ∷ ys) = elim (told y) [
+  | inl at_once ↦ inl (y, record { before = []; after = ys; cut = refl; has = at_once; earlier = no_front })
+  | inr not_yet ↦ elim (first_or_none P told ys) [
+    | inl found ↦ inl (found.0, record {
+      before = y ∷ found.1.before;
+      after = found.1.after;
+      cut = ap (λ (zs : List ℕ). y ∷ zs) found.1.cut;
+      has = found.1.has;
+      earlier = none_before y found.0 ys not_yet found.1;
+    })
+    | inr none ↦ inr (λ x here holds. elim (Contains-cases y x ys here) [
+      | inl same ↦ not_yet (subst P (sym same) holds)
+      | inr later ↦ none x later holds
+    ])
+  ]
+]
+  where
+    no_front : (front rest : List ℕ) (other : ℕ) → [] ≡ front ++ other ∷ rest → P other → ⊥
+    no_front [] rest other e held = cc
+    no_front (z ∷ zs) rest other e held = cc
+
+    none_before : (y id : ℕ) (ys : List ℕ) → (P y → ⊥) → (first : IsFirst (λ before q. P q) ys id) → (front rest : List ℕ) (other : ℕ)
+        → y ∷ first.before ≡ front ++ other ∷ rest → P other → ⊥
+    none_before y id ys not_yet first [] rest other e held = not_yet (subst P (sym (first_of e)) held)
+    none_before y id ys not_yet first (z ∷ zs) rest other e held = first.earlier zs rest other (rest_of e) held
+
+-- ---- tables
+
+entry : ℕ × ℤ × ℕ → Entry
+entry tx = record { fee = tx.1; size = tx.2 }
+
+-- a table with more transactions
+put_all : Table → Txs → Table
+put_all table [] = table
+put_all table (tx ∷ txs) = finmap.insert (put_all table txs) tx.0 (record { fee = tx.1; size = tx.2 })
+
+put_other : (table : Table) (txs : Txs) (id : ℕ) → (Contains (ids_of txs) id → ⊥) → finmap.get (put_all table txs) id ≡ finmap.get table id
+put_other table [] id out = refl
+put_other table (tx ∷ txs) id out =
+    get-put_other (put_all table txs) tx.0 (record { fee = tx.1; size = tx.2 }) id
+    (λ same. out (subst (Contains (tx.0 ∷ ids_of txs)) (sym same) (Contains-head tx.0 (ids_of txs))))
+    ∙ put_other table txs id (λ later. out (Contains-later tx.0 id (ids_of txs) later))
+
+put_listed : (table : Table) (txs : Txs) → AreDistinct (ids_of txs) → (id : ℕ) (fee : ℤ) (size : ℕ) → Contains txs (id, fee, size)
+    → finmap.get (put_all table txs) id ≡ Some (record { fee = fee; size = size })
+put_listed table [] once id fee size here = absurd (none_in_empty (id, fee, size) here)
+put_listed table (tx ∷ txs) once id fee size here = elim (Contains-cases tx (id, fee, size) txs here) [
+  | inl same ↦
+      subst (λ (t : ℕ × ℤ × ℕ). finmap.get (put_all table (tx ∷ txs)) t.0 ≡ Some (record { fee = t.1; size = t.2 })) same
+      (get-put_same (put_all table txs) tx.0 (record { fee = tx.1; size = tx.2 }))
+  | inr later ↦
+      get-put_other (put_all table txs) tx.0 (record { fee = tx.1; size = tx.2 }) id
+      (λ same. once.0 (subst (Contains (ids_of txs)) same (Contains-map (λ (t : ℕ × ℤ × ℕ). t.0) txs (id, fee, size) later)))
+      ∙ put_listed table txs once.1 id fee size later
+]
+
+-- ---- the state then
+
+module _ (state : PlainState) (valid : IsValid state) (txs : Txs) (pairs : List (ℕ × ℕ)) (can : CanCome state txs pairs)
+    (once : AreDistinct (ids_of txs)) where
+  abbrev ids : List ℕ
+  ids = ids_of txs
+
+  apart : (id : ℕ) → Contains ids id → Contains state.main.names id → ⊥
+  apart id here main = can.gone id here ((valid.live id).1 (inl main))
+
+  abbrev names : List ℕ
+  names = state.main.names ++ ids
+
+  more : (ys : List (ℕ × ℕ)) × AreDistinct ys × ((pair : ℕ × ℕ) → Contains ys pair ↔ (Contains pairs pair × Contains names pair.1))
+  more = select cases_pair (λ pair. Contains names pair.1) (λ pair. told_number names pair.1) pairs
+
+  abbrev graph : Graph
+  graph = record { names = names; pairs = state.main.pairs ++ more.0 }
+
+  abbrev pub after : PlainState
+  after = record (begun state) { table = put_all state.table txs; main = graph }
+
+  puts : PutsNames state.main ids pairs graph
+  puts = record {
+    names = λ id. (
+      λ here. Contains-append_cases state.main.names ids id here,
+      λ either. elim either [
+        | inl one ↦ Contains-append_left state.main.names ids id one
+        | inr two ↦ Contains-append_right state.main.names ids id two
+      ],
+    );
+    names_once = distinct_joined state.main.names ids valid.main.whole.names once (λ id one two. apart id two one);
+    pairs = λ a b. (
+      λ here. elim (Contains-append_cases state.main.pairs more.0 (a, b) here) [ inl one ↦ inl one | inr two ↦ inr ((more.2 (a, b)).0 two) ],
+      λ either. elim either [
+        | inl one ↦ Contains-append_left state.main.pairs more.0 (a, b) one
+        | inr two ↦ Contains-append_right state.main.pairs more.0 (a, b) ((more.2 (a, b)).1 two)
+      ],
+    );
+    pairs_once =
+        distinct_joined state.main.pairs more.0 valid.main.whole.pairs more.1
+        (λ pair one two. apart pair.0 (can.parents pair.0 pair.1 ((more.2 pair).0 two).0) (valid.main.whole.ends pair.0 pair.1 one).0);
+  }
+
+  pub restores : Restores state txs pairs after
+  restores = record {
+    same = refl;
+    graph = puts;
+    listed = put_listed state.table txs once;
+    others = λ id out. put_other state.table txs id out;
+  }
+
+  -- ---- whether a component is over the limits
+
+  whole : IsGraph graph
+  whole = graph_put state.main graph ids pairs puts valid.main.whole apart can.parents can.acyclic
+
+  small : (id : ℕ) → Contains names id → id < 2 ^ 64
+  small id here = elim (Contains-append_cases state.main.names ids id here) [ inl was ↦ valid.main.names id was | inr put ↦ can.names id put ]
+
+  over_or_not : (bounds : Bounds) (size : ℕ → ℕ) (xs : List ℕ) → AreOver bounds size xs ⊎ (AreOver bounds size xs → ⊥)
+  over_or_not bounds size xs = elim (cases_lt bounds.count (length xs)) [
+    | inl many ↦ inl (inl many)
+    | inr few ↦ elim (cases_lt bounds.size (sum_by size xs)) [
+      | inl large ↦ inl (inr large)
+      | inr within ↦ inr (λ over. elim over [ inl many ↦ omega (arith, many, few) | inr large ↦ omega (arith, large, within) ])
+    ]
+  ]
+
+  told_is_over : (bounds : Bounds) (size : ℕ → ℕ) (xs : List ℕ) (why : Refusal) → ToldOver bounds size xs why → AreOver bounds size xs
+  told_is_over bounds size xs why told = elim told [ inl many ↦ inl many.0 | inr large ↦ inr large.1 ]
+
+  abbrev Over : ℕ → Type 0
+  Over id = (why : Refusal) × IsInOver after id why
+
+  told_over : (id : ℕ) → Over id ⊎ (Over id → ⊥)
+  told_over id = elim (told_number names id) [
+    | inl here ↦
+        let list = some_list (AreConnected graph.pairs id) (connected_told graph.pairs id) (2 ^ 64)
+        (λ n trail. small n (joined_name graph whole id n trail.0 trail.1 here)) in
+        elim (over_or_not state.limits (size_of after.table) list.0) [
+          | inl over ↦ let why = over_told state.limits (size_of after.table) list.0 over in inl (why.0, (list.0, list.1, why.1))
+          | inr within ↦ inr (λ (why, (xs, lists, told)).
+              within (told_is_over state.limits (size_of after.table) list.0 why
+              (subst (λ (ys : List ℕ). ToldOver state.limits (size_of after.table) ys why)
+              (Lists-same (AreConnected graph.pairs id) xs list.0 lists list.1) told)))
+        ]
+    | inr out ↦ alone id out
+  ]
+    where
+      alone : (id : ℕ) → (Contains names id → ⊥) → Over id ⊎ (Over id → ⊥)
+      alone id out = inl (absurd (out id))
+
+  -- what another state that comes so has over the limits, this one has
+  alike : (next : PlainState) → Restores state txs pairs next → (id : ℕ) (why : Refusal) → IsInOver next id why → IsInOver after id why
+  alike next other id why (xs, lists, told) = (
+    xs,
+    Lists-for (AreConnected next.main.pairs id) (AreConnected graph.pairs id) xs
+        (λ q. connects next.main.pairs graph.pairs (λ a b pair. one_pair graph.pairs a b ((puts.pairs a b).1 (same_pair a b ((other.graph.pairs a b).0 pair)))) id q)
+        (λ q. connects graph.pairs next.main.pairs (λ a b pair. one_pair next.main.pairs a b ((other.graph.pairs a b).1 (back_pair a b ((puts.pairs a b).0 pair)))) id q)
+        lists,
+    subst₂ (λ (bounds : Bounds) (n : ℕ). ToldAt bounds n xs why) (ap (λ (s : PlainState). s.limits) other.same) (sizes xs) (at_of next.limits (size_of next.table) xs why told),
+  )
+    where
+      ToldAt : Bounds → ℕ → List ℕ → Refusal → Type 0
+      ToldAt bounds n xs why = ⊥
