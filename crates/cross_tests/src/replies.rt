@@ -1,4 +1,5 @@
 //! The session answers lines as the plain lists do, and proves its orders to the checker.
+use crate::mined::{Block, block_of, refused, restored};
 use crate::picked::{evict, fill};
 use crate::trimmed::trim;
 use graph_model::{DEFAULT_LIMITS, IdBuf, Level, Limits, MAX_LINE, Refusal, TxId};
@@ -19,6 +20,8 @@ pub struct Lists {
     live: Plain,
     main: Plain,
     staging: Option<Plain>,
+    /// the mined blocks, the latest last
+    blocks: Vec<Block>,
 }
 
 impl Lists {
@@ -29,6 +32,7 @@ impl Lists {
             live: Plain::new(alloc)?,
             main: Plain::new(alloc)?,
             staging: None,
+            blocks: Vec::new(alloc),
         })
     }
 
@@ -122,7 +126,35 @@ impl Lists {
                 return Err(Refusal::Parent(*id));
             }
         }
+        self.keep_block(ids).map_err(|_| Refusal::Memory)?;
         self.drop_all(ids)
+    }
+
+    /// At most 100 blocks are kept.
+    fn keep_block(&mut self, ids: &[TxId]) -> Result<(), AllocError> {
+        let block = block_of(self.alloc, &self.main, ids)?;
+        if self.blocks.len() == 100 {
+            self.blocks.remove(0);
+        }
+        self.blocks.push(block)
+    }
+
+    /// Puts the latest block back.
+    fn unmine(&mut self, rt: &impl Abort) -> Result<Block, Refusal> {
+        if self.staging.is_some() {
+            return Err(Refusal::Staging);
+        }
+        let Some(block) = self.blocks.pop() else {
+            return Err(Refusal::NoBlock);
+        };
+        let why = refused(self.alloc, &self.limits, &self.main, &block);
+        if let Some(why) = why.map_err(|_| Refusal::Memory)? {
+            self.blocks.push(block).map_err(|_| Refusal::Memory)?;
+            return Err(why);
+        }
+        self.main = restored(rt, self.alloc, &self.limits, &self.main, &block)?;
+        self.live = copy(&self.main)?;
+        Ok(block)
     }
 
     /// Closes staging, which becomes main or is dropped.
@@ -196,6 +228,24 @@ fn tell_found<K: Sink>(
     }
 }
 
+/// Writes the reply to a block that is taken back.
+fn tell_block<K: Sink>(
+    alloc: Global,
+    sink: &mut K,
+    done: Result<Block, Refusal>,
+) -> Result<(), Failed> {
+    let mut ids = Vec::new(alloc);
+    match done {
+        Ok(block) => {
+            for tx in &block.txs {
+                ids.push(tx.id).map_err(|_| Failed)?;
+            }
+            write_ids(sink, "unmined", None, &ids)
+        }
+        Err(why) => write_refusal(sink, &why),
+    }
+}
+
 /// Answers what a line says over the plain lists. A `mine` has its names in `ids`.
 fn reply<K: Sink>(
     rt: &impl Abort,
@@ -212,6 +262,7 @@ fn reply<K: Sink>(
         Line::Fee(id, fee) => tell(sink, lists.fee(id, fee)),
         Line::Remove(id) => tell(sink, lists.remove(id)),
         Line::Mine => tell(sink, lists.mine(ids)),
+        Line::Unmine => tell_block(lists.alloc, sink, lists.unmine(rt)),
         Line::Stage => tell(sink, lists.stage()),
         Line::Commit => tell(sink, lists.close(true)),
         Line::Abort => tell(sink, lists.close(false)),
@@ -260,7 +311,7 @@ fn line_at(alloc: Global, state: &mut u64, at: u64) -> Result<String, AllocError
     let child = at.saturating_sub(draw(state, at.min(40)));
     let parent = child.saturating_sub(draw(state, child.min(12)));
     let level = if draw(state, 2) == 0 { "main" } else { "top" };
-    match draw(state, 23) {
+    match draw(state, 24) {
         0..7 => {
             let size = 100 + draw(state, 900) % 900;
             let sign = if draw(state, 4) == 0 { "-" } else { "" };
@@ -276,6 +327,7 @@ fn line_at(alloc: Global, state: &mut u64, at: u64) -> Result<String, AllocError
         19 => format!(in alloc; "mine {child} {parent}"),
         20 => format!(in alloc; "mine {child}"),
         21 => String::from_str(alloc, "evict"),
+        22 => String::from_str(alloc, "unmine"),
         _ => String::from_str(alloc, staging_line(draw(state, 8))),
     }
 }
@@ -427,7 +479,7 @@ fn close_line(alloc: Global, state: &mut u64) -> Result<String, AllocError> {
     let one = draw(state, 12);
     let other = draw(state, 12);
     let level = if draw(state, 2) == 0 { "main" } else { "top" };
-    match draw(state, 25) {
+    match draw(state, 27) {
         0..6 => {
             let size = 1 + draw(state, 9) % 9;
             format!(in alloc; "add {one} {size} {size}")
@@ -442,6 +494,7 @@ fn close_line(alloc: Global, state: &mut u64) -> Result<String, AllocError> {
         20 => format!(in alloc; "mine {one}"),
         21 => String::from_str(alloc, "evict"),
         22 => String::from_str(alloc, "trim"),
+        23..25 => String::from_str(alloc, "unmine"),
         _ => String::from_str(alloc, staging_line(draw(state, 8))),
     }
 }

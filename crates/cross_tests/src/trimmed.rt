@@ -48,7 +48,7 @@ fn first_candidate(
 }
 
 /// The component of a transaction among those that are kept.
-fn component(
+pub fn component(
     alloc: Global,
     pairs: &[(TxId, TxId)],
     kept: &[TxId],
@@ -70,7 +70,7 @@ fn component(
 }
 
 /// The total size of some transactions, in virtual bytes.
-fn size_of(txs: &[Tx], ids: &[TxId]) -> u64 {
+pub fn size_of(txs: &[Tx], ids: &[TxId]) -> u64 {
     let mut size: u64 = 0;
     for tx in txs {
         if ids.contains(&tx.id) {

@@ -1,1 +1,2 @@
 pub mod Lifted
+mod Kept

@@ -14,6 +14,7 @@ pub(crate) struct Block {
 }
 
 impl Model for Block {
+    ghost use Rattle.std.specs.Prelude.{◌≡◌};
     ghost use Rattle.graph_model.specs.Changes.{ids_of};
     ghost use Rattle.graph_model.specs.States.{MinedBlock};
     ghost use Rattle.reorg.specs.Kept.{block_code};

@@ -1,0 +1,2 @@
+mod ByComponents
+mod TrimLaw
