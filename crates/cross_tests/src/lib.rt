@@ -8,6 +8,8 @@ mod check_tests;
 #[cfg(test)]
 mod mined;
 #[cfg(test)]
+mod mined_tests;
+#[cfg(test)]
 mod orders;
 #[cfg(test)]
 mod picked;

@@ -77,7 +77,7 @@ pub fn shows(
 }
 
 /// The same of `replay`.
-fn replays(
+pub fn replays(
     rt: &impl Abort,
     alloc: Global,
     input: &str,
@@ -149,7 +149,7 @@ const RUNS: [Row; 16] = [
          refused late\nrefused syntax\nrefused syntax\nrefused syntax\nrefused unknown 9\nrefused syntax\n",
     ),
     (
-        "mine\ntrim 1\nunmine\ndump\nlimits 64 1 defer\nblock 1 1\nevict 1\n",
+        "mine\ntrim 1\nunmine 1\ndump 1\nlimits 64 1 defer\nblock 1 1\nevict 1\n",
         "refused syntax\nrefused syntax\nrefused syntax\nrefused syntax\nrefused syntax\nrefused syntax\nrefused syntax\n",
     ),
 ];
