@@ -83,11 +83,11 @@ its_clusters w level shelf order list clusters =
     record {
       each = λ c here id there.
           let found = flat_of (λ n. option_to_list (seen_at level shelf.store.clusters n)) clusters.numbers c
-              (subst (λ (cs : List Cluster). Contains cs c) clusters.told here) in
+          (subst (λ (cs : List Cluster). Contains cs c) clusters.told here) in
           cluster_of (64 * w) (view_of level shelf) indexed found.0 c (in_option (seen_at level shelf.store.clusters found.0) c found.2) id there;
       once = names_once w level shelf order (flat_map (λ (c : Cluster). c.names) list) names;
       all = λ id member.
           let found = flat_of (λ (c : Cluster). c.names) list id
-              ((names_are w level shelf order (flat_map (λ (c : Cluster). c.names) list) names id).1 member) in
+          ((names_are w level shelf order (flat_map (λ (c : Cluster). c.names) list) names id).1 member) in
           (found.0, found.1, found.2);
     }
