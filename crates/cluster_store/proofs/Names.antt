@@ -1,9 +1,9 @@
 -- The names and the clusters of a level, by the slots.
-use Rattle.std.proofs.Common.{◌≡◌, ℕ, zero, suc, ◌+◌, ◌≤◌, Bool, true, false, cond, List, [], ◌∷◌, ◌++◌, map, flat_map, Option, None, Some, Contains, refl, sym, ap, ap₂, ◌∙◌, subst, arith}
+use Rattle.std.proofs.Common.{◌≡◌, ℕ, zero, suc, ◌+◌, ◌≤◌, Bool, true, false, cond, List, [], ◌∷◌, ◌++◌, map, flat_map, Option, None, Some, Contains, refl, sym, ap, ap₂, ◌∙◌, arith}
 use Rattle.std.specs.Prelude.{option_to_list}
 use Rattle.std.specs.FinMap as finmap
 use Rattle.lists.specs.Distinct.{AreDistinct}
-use Rattle.lists.proofs.Entries.{Contains-head, Contains-later, Contains-map, map-Contains}
+use Rattle.lists.proofs.Entries.{Contains-head, Contains-later, Contains-map}
 use Rattle.slab.specs.Slab.{Slab, entries, entries_from}
 use Rattle.slab.proofs.SlabLemmas.{Contains-entries}
 use Rattle.graphs.specs.declared.names.Level.{Level}
