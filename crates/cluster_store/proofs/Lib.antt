@@ -41,3 +41,5 @@ pub mod Turning
 pub mod Listing
 pub mod Callers
 pub mod Lacking
+pub mod Overs
+pub mod Names

@@ -10,3 +10,5 @@ pub mod Kept
 pub mod Rates
 pub mod Tops
 pub mod Unordered
+pub mod Overs
+pub mod Names

@@ -10,13 +10,18 @@ ghost use Rattle.cluster_store.specs.Rates.{IsTail};
 ghost use Rattle.cluster_store.specs.Changes.{AreHeld, EndsAt, ExchangesEach, lowest_in, most_least, settled};
 ghost use Rattle.cluster_store.specs.Tops.{MayLeave, TopChanges};
 ghost use Rattle.cluster_store.specs.Unordered.{LacksOrder};
+ghost use Rattle.cluster_store.specs.Names.{AreClusters, AreNames};
+ghost use Rattle.cluster_store.specs.Overs.{AreLacking};
 
 use crate::ancestry::{lacks, reaches};
 use crate::clusters::{cluster_of, entry_at, exchange_all, tag_of};
 use crate::held::HeldWalk;
 use crate::least::{lowest_exchanged, lowest_of_all, lowest_of_last};
+use crate::name_walk::NameWalk;
+use crate::over_walk::OverWalk;
 use crate::rate_walk::RateWalk;
 use crate::rebuilding::rebuild;
+use crate::record_walk::RecordWalk;
 use crate::settling::settle;
 use crate::stored::{Exchange, Made, Stored};
 use crate::tail::first_of_tail;
@@ -107,6 +112,28 @@ impl<const W: usize> ClusterStore<W> {
         ensures { IsTrue result ↔ LacksOrder level self.now.clusters }
     {
         lacks_order(&self.slots, &self.over, level)
+    }
+
+    /// The clusters of a level that have no order, each once and lent as its links. Takes no memory, and costs nothing where every cluster
+    /// has an order.
+    pub fn walk_over(&self, level: Level) -> OverWalk<'_, Stored<W>>
+        ensures { AreLacking level self.now.clusters result }
+    {
+        OverWalk::new(&self.slots, self.over.as_slice(), level)
+    }
+
+    /// The names of a level, one cluster after the other. Takes no memory. It looks at the clusters of both levels.
+    pub fn walk_names(&self, level: Level) -> NameWalk<'_, Stored<W>>
+        ensures { AreNames level self.now.clusters result }
+    {
+        NameWalk::new(self.slots.iter(), level)
+    }
+
+    /// The clusters of a level, each once, those with an order and those without. Takes no memory. It looks at the clusters of both levels.
+    pub fn walk_records(&self, level: Level) -> RecordWalk<'_, W>
+        ensures { AreClusters level self.now.clusters result }
+    {
+        RecordWalk::new(self.slots.iter(), level)
     }
 
     /// Whether a name of a cluster is an ancestor of another. The cluster of the number has both. Takes no memory.

@@ -52,8 +52,8 @@ fn stands_unordered<const W: usize>(slots: &Slab<Stored<W>>, number: usize, leve
     }
 }
 
-// Whether a level has what has this tag.
-fn is_in(level: Level, tag: Tag) -> bool
+/// Whether a level has what has this tag.
+pub fn is_in(level: Level, tag: Tag) -> bool
     ensures { result ≡ is_in level tag }
 {
     match (level, tag) {

@@ -16,6 +16,7 @@ mod Fewer
 mod Finds
 mod Fitting
 mod Oversizing
+mod Overs
 mod Firsts
 mod Following
 mod Forgetting
@@ -29,6 +30,7 @@ mod Listed
 mod Lookups
 mod Losing
 mod Making
+mod Members
 mod Mined
 mod Most
 mod Naming

@@ -23,7 +23,7 @@ use Rattle.cluster_store.specs.Stores.{Numbered, Stored}
 use Rattle.cluster_store.specs.Unordered.{LacksOrder}
 use Rattle.cluster_store.proofs.Unions.{keyed, levels_are_picked}
 use Rattle.levels.specs.Levels.{HasPick, HavePicks, Levels, MayHavePick}
-use Rattle.levels.specs.Oversize.{IsOversized}
+use Rattle.levels.specs.Oversize.{AreOfOneComponent, IsOversized}
 use Rattle.levels.specs.Shelves.{Shelf, IsInOrder, levels_of, numbers_at, one_of, seen_at, seen_in, stored_at, view_of}
 use Rattle.levels.specs.Views.{IsIndexed, Numbers, graph_of}
 use Rattle.levels.proofs.Finds.{graph_is, indexed_at, is_level, seen}
@@ -112,29 +112,35 @@ module _ (w : ℕ) (level : Level) (shelf : Shelf) (order : IsInOrder w shelf) w
   over_told n c at (inl many) = inl many
   over_told n c at (inr large) = inr (subst (λ size. shelf.limits.size < size) (sym (sizes_same n c at)) large)
 
+  -- a cluster without an order is over the limits
+  pub over_at : (n : ℕ) (c : Cluster) → seen_at level shelf.store.clusters n ≡ Some c → c.parts ≡ []
+      → AreOver (bounds_of shelf.limits) size_known c.names
+  over_at n c at none = elim (over_or_within shelf.limits c) [
+    | inl over ↦ over_told n c at over
+    | inr within ↦ absurd (has_parts (64 * w) c ((order.fitted n c (seen_is_stored level shelf.store.clusters n c at)).within within) none)
+  ]
+
   lacks_is_over : LacksOrder level shelf.store.clusters → IsOversized shelf.limits known
   lacks_is_over (n, c, at, none) =
-      let fitted = order.fitted n c (seen_is_stored level shelf.store.clusters n c at) in
-      elim (over_or_within shelf.limits c) [
-        | inl over ↦ (
-          c.names,
-          record {
-            once = fitted.connected.once;
-            inside = λ id here. in_live (64 * w) (view_of level shelf) indexed n id c at here;
-            together = λ a b a_in b_in. (cluster_of (64 * w) (view_of level shelf) indexed n c at a a_in).linked b b_in;
-          },
-          over_told n c at over,
-        )
-        | inr within ↦ absurd (has_parts (64 * w) c (fitted.within within) none)
-      ]
+      let fitted = order.fitted n c (seen_is_stored level shelf.store.clusters n c at) in (
+        c.names,
+        record {
+          once = fitted.connected.once;
+          inside = λ id here. in_live (64 * w) (view_of level shelf) indexed n id c at here;
+          together = λ a b a_in b_in. (cluster_of (64 * w) (view_of level shelf) indexed n c at a a_in).linked b b_in;
+        },
+        over_at n c at none,
+      )
 
   -- names over the limits have a first one
   first_of : (ids : List ℕ) → AreOver (bounds_of shelf.limits) size_known ids → (id : ℕ) × Contains ids id
   first_of [] over = absurd (elim over [ inl many ↦ omega (arith, many) | inr large ↦ omega (arith, large) ])
   first_of (id ∷ ids) over = (id, Contains-head id ids)
 
-  over_lacks : IsOversized shelf.limits known → LacksOrder level shelf.store.clusters
-  over_lacks (ids, one, over) =
+  -- names of one component that are over the limits are of a cluster without an order
+  pub lacks_with : (ids : List ℕ) → AreOfOneComponent known ids → AreOver (bounds_of shelf.limits) size_known ids
+      → (n : ℕ) × (c : Cluster) × (seen_at level shelf.store.clusters n ≡ Some c) × (c.parts ≡ []) × ((id : ℕ) → Contains ids id → Contains c.names id)
+  lacks_with ids one over =
       let first = first_of ids over in
       let at = live_in (64 * w) (view_of level shelf) indexed first.0 (one.inside first.0 first.1) in
       let c = at.2.cluster in
@@ -144,8 +150,16 @@ module _ (w : ℕ) (level : Level) (shelf : Shelf) (order : IsInOrder w shelf) w
       let is_over : IsOver shelf.limits c = elim over [
         | inl many ↦ inl (let few = less.0 in omega (arith, many, few))
         | inr large ↦ inr (let few = less.1 in omega (arith, large, few, same))
-      ] in
-      (at.0, c, at.2.there, (order.fitted at.0 c (seen_is_stored level shelf.store.clusters at.0 c at.2.there)).over is_over)
+      ] in (
+        at.0,
+        c,
+        at.2.there,
+        (order.fitted at.0 c (seen_is_stored level shelf.store.clusters at.0 c at.2.there)).over is_over,
+        (λ id here. of.alone id (one.together first.0 id first.1 here)),
+      )
+
+  over_lacks : IsOversized shelf.limits known → LacksOrder level shelf.store.clusters
+  over_lacks (ids, one, over) = let found = lacks_with ids one over in (found.0, found.1, found.2, found.3)
 
   pub lacks_exactly : LacksOrder level shelf.store.clusters ↔ IsOversized shelf.limits known
   lacks_exactly = (lacks_is_over, over_lacks)

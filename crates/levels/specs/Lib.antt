@@ -9,6 +9,7 @@ pub mod Mining
 pub mod Moves
 pub mod Orders
 pub mod Oversize
+pub mod Overs
 pub mod Places
 pub mod Rings
 pub mod Settling

@@ -13,6 +13,7 @@ ghost use Rattle.cluster.specs.Steps.{GrowsWithin};
 ghost use Rattle.record.specs.Steps.{most_steps_fit};
 ghost use Rattle.graph_model.specs.Limits.{AreInRange, bounds_of};
 ghost use Rattle.levels.specs.Oversize.{IsOversized};
+ghost use Rattle.levels.specs.Overs.{LendsOvers};
 ghost use Rattle.cluster_store.specs.Held.{Held};
 ghost use Rattle.cluster_store.specs.Lent.{lent};
 ghost use Rattle.diagram.specs.Parts.{AreLevelParts, YieldsParts};
@@ -25,14 +26,14 @@ ghost use Rattle.levels.specs.Levels as specs_levels;
 ghost use Rattle.levels.specs.Mining.{MineRefusalIs};
 ghost use Rattle.levels.specs.Stays.{KeepsPicks};
 ghost use Rattle.graphs.specs.declared.names.Level as graph_level;
-ghost use Rattle.levels.specs.Views.{HaveClusterNumbers, IsClusterOf};
+ghost use Rattle.levels.specs.Views.{AreItsClusters, HaveClusterNumbers, IsClusterOf};
 
 use crate::mining::refused_mine;
 use crate::moving::{add_name, connect, drop_names};
 use crate::settling::settle_rings;
 use crate::shelves::Shelves;
 use cluster::PartRef;
-use cluster_store::{HeldWalk, PartWalk, RateWalk, Stored};
+use cluster_store::{HeldWalk, NameWalk, OverWalk, PartWalk, RateWalk, RecordWalk, Stored};
 use component::{Component, Covers, Work};
 use fee_rate::FeeRate;
 use graph_model::{Level, Limits, Place, Refusal, TxId, Verdict};
@@ -391,6 +392,34 @@ impl<const W: usize> Levels<W> {
     {
         let _count = self.mains;
         self.shelves.held(level)
+    }
+
+    /// The components of a level that are over the limits, each once, as its transactions and dependencies. Takes no memory, and costs
+    /// nothing where no component of either level is.
+    pub fn overs(&self, level: Level) -> OverWalk<'_, Stored<W>>
+        ensures { LendsOvers self.now.limits (level_at self.now level).graph result }
+    {
+        let _count = self.mains;
+        self.shelves.overs(level)
+    }
+
+    /// The names of a level, each once, one component after the other. Takes no memory. It costs the components of both levels, and the
+    /// names of this one.
+    pub fn names(&self, level: Level) -> NameWalk<'_, Stored<W>>
+        ensures names { (id : ℕ) → Contains result id ↔ (is_member (level_at self.now level).graph id ≡ true) }
+        ensures once { AreDistinct result }
+    {
+        let _count = self.mains;
+        self.shelves.names(level)
+    }
+
+    /// The components of a level, each once. One within the limits is lent with its order, and one over them without. Takes no memory. It
+    /// costs the components of both levels.
+    pub fn components(&self, level: Level) -> RecordWalk<'_, W>
+        ensures { AreItsClusters (level_at self.now level).graph result }
+    {
+        let _count = self.mains;
+        self.shelves.components(level)
     }
 
     /// A size, in virtual bytes, that no name of main is below. Takes no memory.

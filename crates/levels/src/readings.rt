@@ -1,6 +1,7 @@
 //! What is read of the orders of the levels. Nothing takes memory.
-ghost use Rattle.std.specs.Prelude.{◌≡◌, ◌≢◌, ◌≤◌, ℕ, true, false, Some, map, Contains, MatchOption};
+ghost use Rattle.std.specs.Prelude.{◌≡◌, ◌≢◌, ◌↔◌, ◌≤◌, ℕ, true, false, Some, map, Contains, MatchOption};
 ghost use Rattle.std.specs.FinMap as finmap;
+ghost use Rattle.lists.specs.Distinct.{AreDistinct};
 ghost use Rattle.fee_rate.specs.Limits.{IsRate};
 ghost use Rattle.fee_rate.specs.declared.limits.TheConstants.{MAX_TOTAL};
 ghost use Rattle.graphs.specs.declared.names.Level as levels;
@@ -18,12 +19,13 @@ ghost use Rattle.levels.specs.Levels.{IsBest};
 ghost use Rattle.levels.specs.Orders.{ComparesParts, ListsCovers, sums_of};
 ghost use Rattle.levels.specs.Places.{HasPart};
 ghost use Rattle.levels.specs.Oversize.{IsOversized};
+ghost use Rattle.levels.specs.Overs.{LendsOvers};
 ghost use Rattle.levels.specs.Shelves.{HaveFew, IsInOrder, numbers_at, one_of};
-ghost use Rattle.levels.specs.Views.{HaveClusterNumbers};
+ghost use Rattle.levels.specs.Views.{AreItsClusters, HaveClusterNumbers};
 
 use crate::shelves::Shelves;
 use cluster::PartRef;
-use cluster_store::{HeldWalk, PartWalk, RateWalk, Stored};
+use cluster_store::{HeldWalk, NameWalk, OverWalk, PartWalk, RateWalk, RecordWalk, Stored};
 use component::Covers;
 use graph_model::{Level, Place, TxId, Verdict};
 
@@ -53,6 +55,31 @@ impl<const W: usize> Shelves<W> {
         ensures clusters { (h : Held) → Contains result h → IsHeldIn (one_of level self.now) h }
     {
         self.store().walk_held(level)
+    }
+
+    /// The components of a level that are over the limits.
+    pub(crate) fn overs(&self, level: Level) -> OverWalk<'_, Stored<W>>
+        requires order { IsInOrder W self.now }
+        ensures { LendsOvers self.now.limits (one_of level self.now).graph result }
+    {
+        self.store().walk_over(level)
+    }
+
+    /// The names of a level.
+    pub(crate) fn names(&self, level: Level) -> NameWalk<'_, Stored<W>>
+        requires order { IsInOrder W self.now }
+        ensures names { (id : ℕ) → Contains result id ↔ (is_member (one_of level self.now).graph id ≡ true) }
+        ensures once { AreDistinct result }
+    {
+        self.store().walk_names(level)
+    }
+
+    /// The components of a level.
+    pub(crate) fn components(&self, level: Level) -> RecordWalk<'_, W>
+        requires order { IsInOrder W self.now }
+        ensures { AreItsClusters (one_of level self.now).graph result }
+    {
+        self.store().walk_records(level)
     }
 
     /// A size, in virtual bytes, that no name of main is below.

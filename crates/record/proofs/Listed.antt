@@ -57,12 +57,12 @@ module _ (links : Links) (are : AreLinks links) (s : Cluster) (is : unordered li
   over_above a up =
       subst (λ (c : Cluster). Contains c.names a) is (above_in (names_of links.txs) links.pairs are.graph_is.ends a id up has)
 
-  above_to : (a : ℕ) → IsAncestor links.pairs a id → is_ancestor s.graph a id ≡ true
+  pub above_to : (a : ℕ) → IsAncestor links.pairs a id → is_ancestor s.graph a id ≡ true
   above_to a up =
       subst (λ (c : Cluster). is_ancestor c.graph a id ≡ true) is
       ((ancestors_are links are a id).1 (above_in (names_of links.txs) links.pairs are.graph_is.ends a id up has, has, up))
 
-  above_of : (a : ℕ) → is_ancestor s.graph a id ≡ true → IsAncestor links.pairs a id
+  pub above_of : (a : ℕ) → is_ancestor s.graph a id ≡ true → IsAncestor links.pairs a id
   above_of a up = ((ancestors_are links are a id).0 (subst (λ (c : Cluster). is_ancestor c.graph a id ≡ true) (sym is) up)).2
 
   pub over_lacks : (L : ℕ → Type 0) (answer : Bool) → (answer ≡ true) ↔ ((a : ℕ) × IsAncestor links.pairs a id × (L a → ⊥))

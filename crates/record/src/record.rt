@@ -274,6 +274,16 @@ impl<const W: usize> Record<W> {
         }
     }
 
+    /// The links of a component without an order, or `None` where it has its order.
+    pub fn links(&self) -> Option<&Links>
+        ensures { MatchOption result (self.now.parts ≢ []) (λ links. AreLinks links.now × (unordered links.now ≡ self.now)) }
+    {
+        match &self.kept {
+            Kept::Within(_) => None,
+            Kept::Over(over) => Some(&over.links),
+        }
+    }
+
     /// The names, each at its place.
     pub fn names(&self) -> &[TxId]
         ensures names { result.now ≡ self.now.names }

@@ -1,5 +1,6 @@
 ghost use Rattle.std.specs.Prelude.{◌≡◌, ◌≢◌, ℕ, ℤ, ◌+◌, ◌-◌, ◌*◌, ◌^◌, ◌<◌, ◌≤◌, ◌⊎◌, ◌↔◌, true, None, Some, List, [], ◌∷◌, length, map, option_map, is_ok, if◌then◌else◌, IsSome, IsTrue, IfOk, IfErr, OnErr, MatchResult, Contains};
 ghost use Rattle.std.specs.FinMap as finmap;
+ghost use Rattle.lists.specs.Distinct.{AreDistinct};
 ghost use Rattle.std.specs.Iterator.{IsFinite};
 ghost use Rattle.std.specs.Iterator.Adapters.{rev_source};
 ghost use Rattle.graphs.specs.Closures.{is_member, is_ancestor, rate_of, AreLinked};
@@ -30,12 +31,13 @@ ghost use Rattle.levels.specs.Lefts.{DropsWithin};
 ghost use Rattle.levels.specs.Levels.{GrowsForFee, IsLive, IsWithin, level_at};
 ghost use Rattle.levels.specs.Orders.{ListsCovers, sums_of};
 ghost use Rattle.levels.specs.Oversize.{IsOversized};
-ghost use Rattle.levels.specs.Views.{IsClusterOf};
+ghost use Rattle.levels.specs.Overs.{LendsOvers};
+ghost use Rattle.levels.specs.Views.{AreItsClusters, IsClusterOf};
 ghost use Rattle.tx_graph.specs.Dropped.{AreOfClusters, ArePaidBySize, IsBlockOf};
 ghost use Rattle.tx_graph.specs.Readings.{AreMinimalIn, CompareRefusalIs, IsBestOrder, IsTextOf, NameRefusalIs, part_reply, place_reply, compare_reply, settle_reply};
 ghost use Rattle.levels.specs.Stays.{AllStay};
 
-use crate::order::{Diagram, Forward, Held, Numbered, Order, OrderBack};
+use crate::order::{Components, Diagram, Forward, Held, Names, Numbered, Order, OrderBack, Over};
 use cluster::PartRef;
 use component::{Component, Covers};
 use diagram::corners;
@@ -228,6 +230,33 @@ impl<const W: usize> TxGraph<W> {
         ensures state { (state : State) → StandsFor self.now state → IsTrue result ↔ model.IsOversized state.plain level }
     {
         self.levels.oversized(level)
+    }
+
+    /// The components of a level that have more transactions, or a greater size, than a cluster may have. Each is lent once, as its
+    /// transactions with their fees in satoshis and sizes in virtual bytes, and as dependencies of which walks lead from ancestors to
+    /// descendants. Takes no memory, and costs nothing where no component of either level is over the limits.
+    pub fn over(&self, level: Level) -> Over<'_, W>
+        ensures components { LendsOvers self.now.levels.limits (level_at self.now.levels level).graph result }
+    {
+        self.levels.overs(level)
+    }
+
+    /// The transactions of a level, each once, in no order. Takes no memory. It costs the clusters of both levels, and the transactions of
+    /// this one.
+    pub fn names(&self, level: Level) -> Names<'_, W>
+        ensures names { (id : ℕ) → Contains result id ↔ (is_member (level_at self.now.levels level).graph id ≡ true) }
+        ensures once { AreDistinct result }
+    {
+        self.levels.names(level)
+    }
+
+    /// The components of a level, each once, in no order. One that is within the limits of a cluster is lent with its order, of which
+    /// [`Component::covers`] tells the parents of a transaction with no third one between; one that is over them is lent with its dependencies
+    /// ([`Record::links`](record::Record::links)). Takes no memory. It costs the clusters of both levels.
+    pub fn components(&self, level: Level) -> Components<'_, W>
+        ensures { AreItsClusters (level_at self.now.levels level).graph result }
+    {
+        self.levels.components(level)
     }
 
     /// How many calls of [`add`](TxGraph::add) were accepted since the graph was made.

@@ -13,13 +13,13 @@
 //!   once, and put the chunks that differ into the index of all chunks. The names of the smaller of two joined clusters, or of all but the
 //!   largest of those that are left, get another cluster number.
 //! - A cluster over the limits is kept as names and links. A change of it copies these and solves nothing, and what it leaves within the
-//!   limits is solved once. A level knows without a search whether it is oversized.
+//!   limits is solved once. A level knows without a search whether it is oversized, and `over` looks at the clusters over the limits alone.
 //! - While a staging is open, a cluster that main keeps isn't changed. Another takes its place in staging, under a number of its own.
 //! - `stage` sets a flag. `commit` and `abort` go over the clusters of one level alone, so they cost what staging changed.
 //! - `compare` and `settle` walk the chunks that stand in one level alone. Where the last chunk of a level has a fee below 0, they also walk the
 //!   worst of the chunks in both levels, from the last one upward while fees are below 0, until these are as large as the difference
 //!   between the sizes of what stands in one level alone.
-//! - `order` and `diagram` walk the index. No reading takes memory.
+//! - `order` and `diagram` walk the index, and `names` and `components` walk the clusters of both levels. No reading takes memory.
 //! - A change takes all its memory before it changes anything. So a call that is refused for want of memory leaves the graph as it was.
 #![tactic(auto)]
 
@@ -30,4 +30,5 @@ mod order;
 pub use cluster::PartRef;
 pub use component::{Component, Covers};
 pub use graph::TxGraph;
-pub use order::{Diagram, Forward, Held, Numbered, Order, OrderBack};
+pub use order::{Components, Diagram, Forward, Held, Names, Numbered, Order, OrderBack, Over};
+pub use record::Record;

@@ -1,7 +1,7 @@
 ghost use Rattle.std.specs.Prelude.{◌≡◌, map};
 
 use cluster::PartRef;
-use cluster_store::{HeldWalk, PartWalk, Parts, RateWalk, Stored};
+use cluster_store::{HeldWalk, NameWalk, OverWalk, PartWalk, Parts, RateWalk, RecordWalk, Stored};
 use diagram::Corners;
 use std::iter::Rev;
 use std::marker::Model;
@@ -17,6 +17,15 @@ pub type Numbered<'a, const W: usize> = PartWalk<'a, Stored<W>>;
 
 /// The parts of a level in its order, lent, each with its cluster.
 pub type Held<'a, const W: usize> = HeldWalk<'a, W>;
+
+/// The components of a level that are over the limits of a cluster, lent as their transactions and dependencies.
+pub type Over<'a, const W: usize> = OverWalk<'a, Stored<W>>;
+
+/// The components of a level, lent: those within the limits of a cluster with their orders, and those over them without.
+pub type Components<'a, const W: usize> = RecordWalk<'a, W>;
+
+/// The transactions of a level, in no order.
+pub type Names<'a, const W: usize> = NameWalk<'a, Stored<W>>;
 
 /// The corners of a level's diagram from (0, 0) on, each a size, in virtual bytes, and the fee there, in satoshis.
 pub type Diagram<'a, const W: usize> = Corners<RateWalk<'a>>;
