@@ -1,5 +1,5 @@
 -- The clusters that lack an order in a level, by the numbers that are listed.
-use Rattle.std.proofs.Common.{◌≡◌, ◌↔◌, ℕ, Bool, true, false, cond, ◌||◌, List, [], ◌∷◌, ◌++◌, map, flat_map, nat_eq, Option, None, Some, Contains, inl, inr, refl, sym, ap, ap₂, ◌∙◌, subst, true≢false}
+use Rattle.std.proofs.Common.{◌≡◌, ℕ, Bool, true, false, cond, List, [], ◌∷◌, ◌++◌, map, nat_eq, Option, None, Some, Contains, inl, inr, refl, sym, ap, ap₂, ◌∙◌, subst, true≢false}
 use Rattle.std.specs.List.{IsDistinct, AllByRecursion, filter, list_any}
 use Rattle.std.specs.Cmp.{unsigned_Decides}
 use Rattle.std.specs.FinMap as finmap
@@ -14,7 +14,6 @@ use Rattle.cluster.specs.Clusters.{Cluster}
 use Rattle.cluster_store.specs.Stores.{Stored, Numbered}
 use Rattle.cluster_store.specs.Kept.{Slots, at}
 use Rattle.cluster_store.specs.Held.{cluster_in}
-use Rattle.cluster_store.specs.Tops.{seen_in}
 use Rattle.cluster_store.specs.Unordered.{IsUnordered, LacksOrderIn}
 use Rattle.cluster_store.specs.Overs.{AreLacking, bare_of, lacking_by, lacking_in, lacking_of}
 use Rattle.cluster_store.proofs.Lacking.{lacks_unordered, listed_contains}

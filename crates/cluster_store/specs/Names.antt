@@ -1,5 +1,5 @@
--- The names of a level, one cluster after the other.
-use Rattle.std.specs.Prelude.{◌≡◌, ℕ, cond, List, [], flat_map, Contains, Option, None, Some}
+-- The names and the clusters of a level, one cluster after the other.
+use Rattle.std.specs.Prelude.{◌≡◌, ℕ, cond, List, [], ◌∷◌, flat_map, Contains, Option, None, Some, option_to_list}
 use Rattle.lists.specs.Distinct.{AreDistinct}
 use Rattle.graphs.specs.declared.names.Level.{Level}
 use Rattle.chunk_index.specs.Items.{is_in}
@@ -23,3 +23,14 @@ pub record AreNames (level : Level) (clusters : Numbered) (list : List ℕ) : Ty
   pub once : AreDistinct numbers
   pub all : (n : ℕ) (c : Cluster) → seen_at level clusters n ≡ Some c → Contains numbers n
   pub told : list ≡ flat_map (λ n. names_seen (seen_at level clusters n)) numbers
+
+-- what is stored, where it stands in the level
+abbrev pub clusters_in : Level → Stored → List Cluster
+clusters_in level s = cond (is_in level s.tag) (s.cluster ∷ []) []
+
+-- The clusters that stand in the level, each under a number of its own, one after the other.
+pub record AreClusters (level : Level) (clusters : Numbered) (list : List Cluster) : Type 0 where
+  pub numbers : List ℕ
+  pub once : AreDistinct numbers
+  pub all : (n : ℕ) (c : Cluster) → seen_at level clusters n ≡ Some c → Contains numbers n
+  pub told : list ≡ flat_map (λ n. option_to_list (seen_at level clusters n)) numbers

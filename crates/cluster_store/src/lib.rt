@@ -19,6 +19,7 @@ mod name_walk;
 mod over_walk;
 mod rate_walk;
 mod rebuilding;
+mod record_walk;
 mod settling;
 mod store;
 mod stored;
@@ -33,6 +34,7 @@ pub use laws::{
 pub use name_walk::{HasNames, NameWalk};
 pub use over_walk::{MayLack, OverWalk};
 pub use rate_walk::RateWalk;
+pub use record_walk::RecordWalk;
 pub use store::ClusterStore;
 pub use stored::{Exchange, Made, Stored};
 pub use walk::{PartWalk, Parts, ShownPart};

@@ -10,7 +10,7 @@ ghost use Rattle.cluster_store.specs.Rates.{IsTail};
 ghost use Rattle.cluster_store.specs.Changes.{AreHeld, EndsAt, ExchangesEach, lowest_in, most_least, settled};
 ghost use Rattle.cluster_store.specs.Tops.{MayLeave, TopChanges};
 ghost use Rattle.cluster_store.specs.Unordered.{LacksOrder};
-ghost use Rattle.cluster_store.specs.Names.{AreNames};
+ghost use Rattle.cluster_store.specs.Names.{AreClusters, AreNames};
 ghost use Rattle.cluster_store.specs.Overs.{AreLacking};
 
 use crate::ancestry::{lacks, reaches};
@@ -21,6 +21,7 @@ use crate::name_walk::NameWalk;
 use crate::over_walk::OverWalk;
 use crate::rate_walk::RateWalk;
 use crate::rebuilding::rebuild;
+use crate::record_walk::RecordWalk;
 use crate::settling::settle;
 use crate::stored::{Exchange, Made, Stored};
 use crate::tail::first_of_tail;
@@ -126,6 +127,13 @@ impl<const W: usize> ClusterStore<W> {
         ensures { AreNames level self.now.clusters result }
     {
         NameWalk::new(self.slots.iter(), level)
+    }
+
+    /// The clusters of a level, each once, those with an order and those without. Takes no memory. It looks at the clusters of both levels.
+    pub fn walk_records(&self, level: Level) -> RecordWalk<'_, W>
+        ensures { AreClusters level self.now.clusters result }
+    {
+        RecordWalk::new(self.slots.iter(), level)
     }
 
     /// Whether a name of a cluster is an ancestor of another. The cluster of the number has both. Takes no memory.

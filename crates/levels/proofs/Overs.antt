@@ -1,20 +1,18 @@
 -- The clusters of a level without an order are its components that are over the limits.
-use Rattle.std.proofs.Common.{◌≡◌, ◌↔◌, ℕ, ℤ, ◌*◌, true, List, [], ◌∷◌, ◌++◌, map, flat_map, Contains, Option, Some, refl, sym, ap, ap₂, ◌∙◌, subst}
+use Rattle.std.proofs.Common.{◌≡◌, ℕ, ℤ, ◌*◌, List, [], ◌∷◌, ◌++◌, map, flat_map, Contains, Some, refl, sym, ap, ◌∙◌, subst}
 use Rattle.std.specs.FinMap as finmap
 use Rattle.lists.specs.Distinct.{AreDistinct}
 use Rattle.lists.proofs.Entries.{Contains-map, map-Contains}
 use Rattle.lists.proofs.Flats.{flat_once}
-use Rattle.graphs.specs.Graphs.{IsAncestor}
-use Rattle.graphs.specs.Closures.{Closure, is_ancestor, rate_of}
+use Rattle.graphs.specs.Closures.{Closure, rate_of}
 use Rattle.graphs.specs.declared.names.Level.{Level}
 use Rattle.graph_model.specs.Limits.{AreOver, bounds_of}
 use Rattle.cluster.specs.Clusters.{Cluster}
-use Rattle.links.specs.Links.{Links, AreLinks}
+use Rattle.links.specs.Links.{Links}
 use Rattle.links.specs.Kept.{names_of}
 use Rattle.links.proofs.Closed.{rates_are}
 use Rattle.record.specs.Kept.{unordered}
 use Rattle.record.proofs.Listed.{above_of, above_to}
-use Rattle.cluster_store.specs.Stores.{Stored}
 use Rattle.cluster_store.specs.Held.{cluster_in}
 use Rattle.cluster_store.specs.Overs.{AreLacking}
 use Rattle.levels.specs.Oversize.{AreOfOneComponent}

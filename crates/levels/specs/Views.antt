@@ -1,8 +1,9 @@
 -- What is seen of a level: the clusters that stand in it, each under a number, and the number of each name's cluster.
-use Rattle.std.specs.Prelude.{◌≡◌, ◌↔◌, ℕ, true, List, map, Contains, Option, None, Some}
+use Rattle.std.specs.Prelude.{◌≡◌, ◌↔◌, ℕ, true, List, map, flat_map, Contains, Option, None, Some}
 use Rattle.std.specs.Coded.{Coded, coded_ℕ}
 use Rattle.std.specs.FinMap as finmap
 use Rattle.std.specs.FinSet as set
+use Rattle.lists.specs.Distinct.{AreDistinct}
 use Rattle.graphs.specs.Certificates.{Part}
 use Rattle.graphs.specs.Closures.{Node, Closure, is_member, is_ancestor, rate_of, ancestors_of, no_rate, AreLinked}
 use Rattle.staging.specs.Maps.{Map}
@@ -60,3 +61,9 @@ AreOfOneCluster graph p q = (a b : ℕ) × Contains p.ids a × Contains q.ids b 
 abbrev pub HaveClusterNumbers : Closure → List Shown → Type 0
 HaveClusterNumbers graph parts =
     (s t : Shown) → Contains parts s → Contains parts t → (s.number ≡ t.number) ↔ AreOfOneCluster graph s.part t.part
+
+-- Every component of a graph, once, told as clusters are: each is the cluster of each of its names.
+pub record AreItsClusters (graph : Closure) (list : List Cluster) : Type 0 where
+  pub each : (c : Cluster) → Contains list c → (id : ℕ) → Contains c.names id → IsClusterOf graph id c
+  pub once : AreDistinct (flat_map (λ c. c.names) list)
+  pub all : (id : ℕ) → is_member graph id ≡ true → (c : Cluster) × Contains list c × Contains c.names id

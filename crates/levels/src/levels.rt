@@ -27,7 +27,7 @@ ghost use Rattle.levels.specs.Mining.{MineRefusalIs};
 ghost use Rattle.levels.specs.Restores.{BringsNoneOver, BringsOver, MayRestore, PutsTxs, RestoresWithin};
 ghost use Rattle.levels.specs.Stays.{KeepsPicks};
 ghost use Rattle.graphs.specs.declared.names.Level as graph_level;
-ghost use Rattle.levels.specs.Views.{HaveClusterNumbers, IsClusterOf};
+ghost use Rattle.levels.specs.Views.{AreItsClusters, HaveClusterNumbers, IsClusterOf};
 
 use crate::mining::refused_mine;
 use crate::moving::{add_name, connect, drop_names};
@@ -35,7 +35,7 @@ use crate::restoring::restore;
 use crate::settling::settle_rings;
 use crate::shelves::Shelves;
 use cluster::PartRef;
-use cluster_store::{HeldWalk, NameWalk, OverWalk, PartWalk, RateWalk, Stored};
+use cluster_store::{HeldWalk, NameWalk, OverWalk, PartWalk, RateWalk, RecordWalk, Stored};
 use component::{Component, Covers, Work};
 use fee_rate::FeeRate;
 use graph_model::{Level, Limits, Place, Refusal, TxId, Verdict};
@@ -449,6 +449,15 @@ impl<const W: usize> Levels<W> {
     {
         let _count = self.mains;
         self.shelves.names(level)
+    }
+
+    /// The components of a level, each once. One within the limits is lent with its order, and one over them without. Takes no memory. It
+    /// costs the components of both levels.
+    pub fn components(&self, level: Level) -> RecordWalk<'_, W>
+        ensures { AreItsClusters (level_at self.now level).graph result }
+    {
+        let _count = self.mains;
+        self.shelves.components(level)
     }
 
     /// A size, in virtual bytes, that no name of main is below. Takes no memory.

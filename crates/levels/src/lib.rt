@@ -7,7 +7,8 @@
 //! levels: which share a cluster of main, and which staging touched.
 //!
 //! Where the limits let dependencies pass them, a cluster may be over them. It is kept without an order, and its level has none as long as
-//! it stands there. A change of it solves nothing; what comes within the limits is solved once.
+//! it stands there. A change of it solves nothing; what comes within the limits is solved once. `overs` lends the components over the
+//! limits as links, and looks at no others; `names` and `components` walk all clusters.
 #![tactic(auto)]
 
 mod changes;

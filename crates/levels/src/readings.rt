@@ -21,11 +21,11 @@ ghost use Rattle.levels.specs.Places.{HasPart};
 ghost use Rattle.levels.specs.Oversize.{IsOversized};
 ghost use Rattle.levels.specs.Overs.{LendsOvers};
 ghost use Rattle.levels.specs.Shelves.{HaveFew, IsInOrder, numbers_at, one_of};
-ghost use Rattle.levels.specs.Views.{HaveClusterNumbers};
+ghost use Rattle.levels.specs.Views.{AreItsClusters, HaveClusterNumbers};
 
 use crate::shelves::Shelves;
 use cluster::PartRef;
-use cluster_store::{HeldWalk, NameWalk, OverWalk, PartWalk, RateWalk, Stored};
+use cluster_store::{HeldWalk, NameWalk, OverWalk, PartWalk, RateWalk, RecordWalk, Stored};
 use component::Covers;
 use graph_model::{Level, Place, TxId, Verdict};
 
@@ -72,6 +72,14 @@ impl<const W: usize> Shelves<W> {
         ensures once { AreDistinct result }
     {
         self.store().walk_names(level)
+    }
+
+    /// The components of a level.
+    pub(crate) fn components(&self, level: Level) -> RecordWalk<'_, W>
+        requires order { IsInOrder W self.now }
+        ensures { AreItsClusters (one_of level self.now).graph result }
+    {
+        self.store().walk_records(level)
     }
 
     /// A size, in virtual bytes, that no name of main is below.

@@ -7,7 +7,7 @@
 //! Which of the two a record is depends on its names, their sizes and the limits alone, so each call that may pass a limit is given the
 //! limits. Where a change leaves a component over them, its links are made of those that it came from: of a component with an order
 //! these are the parents of each name with no third name between. Where a change brings components back within the limits, each of
-//! them is solved once.
+//! them is solved once. `component` lends a record that has its order, and `links` one that has none.
 #![tactic(auto)]
 
 mod joining;

@@ -32,12 +32,12 @@ ghost use Rattle.levels.specs.Levels.{GrowsForFee, IsLive, IsWithin, level_at};
 ghost use Rattle.levels.specs.Orders.{ListsCovers, sums_of};
 ghost use Rattle.levels.specs.Oversize.{IsOversized};
 ghost use Rattle.levels.specs.Overs.{LendsOvers};
-ghost use Rattle.levels.specs.Views.{IsClusterOf};
+ghost use Rattle.levels.specs.Views.{AreItsClusters, IsClusterOf};
 ghost use Rattle.tx_graph.specs.Dropped.{AreOfClusters, ArePaidBySize, IsBlockOf};
 ghost use Rattle.tx_graph.specs.Readings.{AreMinimalIn, CompareRefusalIs, IsBestOrder, IsTextOf, NameRefusalIs, part_reply, place_reply, compare_reply, settle_reply};
 ghost use Rattle.levels.specs.Stays.{AllStay};
 
-use crate::order::{Diagram, Forward, Held, Names, Numbered, Order, OrderBack, Over};
+use crate::order::{Components, Diagram, Forward, Held, Names, Numbered, Order, OrderBack, Over};
 use cluster::PartRef;
 use component::{Component, Covers};
 use diagram::corners;
@@ -248,6 +248,15 @@ impl<const W: usize> TxGraph<W> {
         ensures once { AreDistinct result }
     {
         self.levels.names(level)
+    }
+
+    /// The components of a level, each once, in no order. One that is within the limits of a cluster is lent with its order, of which
+    /// [`Component::covers`] tells the parents of a transaction with no third one between; one that is over them is lent with its dependencies
+    /// ([`Record::links`](record::Record::links)). Takes no memory. It costs the clusters of both levels.
+    pub fn components(&self, level: Level) -> Components<'_, W>
+        ensures { AreItsClusters (level_at self.now.levels level).graph result }
+    {
+        self.levels.components(level)
     }
 
     /// How many calls of [`add`](TxGraph::add) were accepted since the graph was made.

@@ -19,7 +19,7 @@
 //! - `compare` and `settle` walk the chunks that stand in one level alone. Where the last chunk of a level has a fee below 0, they also walk the
 //!   worst of the chunks in both levels, from the last one upward while fees are below 0, until these are as large as the difference
 //!   between the sizes of what stands in one level alone.
-//! - `order` and `diagram` walk the index. No reading takes memory.
+//! - `order` and `diagram` walk the index, and `names` and `components` walk the clusters of both levels. No reading takes memory.
 //! - A change takes all its memory before it changes anything. So a call that is refused for want of memory leaves the graph as it was.
 #![tactic(auto)]
 
@@ -31,4 +31,5 @@ mod restoring;
 pub use cluster::PartRef;
 pub use component::{Component, Covers};
 pub use graph::TxGraph;
-pub use order::{Diagram, Forward, Held, Names, Numbered, Order, OrderBack, Over};
+pub use order::{Components, Diagram, Forward, Held, Names, Numbered, Order, OrderBack, Over};
+pub use record::Record;

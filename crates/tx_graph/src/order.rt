@@ -1,7 +1,7 @@
 ghost use Rattle.std.specs.Prelude.{◌≡◌, map};
 
 use cluster::PartRef;
-use cluster_store::{HeldWalk, NameWalk, OverWalk, PartWalk, Parts, RateWalk, Stored};
+use cluster_store::{HeldWalk, NameWalk, OverWalk, PartWalk, Parts, RateWalk, RecordWalk, Stored};
 use diagram::Corners;
 use std::iter::Rev;
 use std::marker::Model;
@@ -20,6 +20,9 @@ pub type Held<'a, const W: usize> = HeldWalk<'a, W>;
 
 /// The components of a level that are over the limits of a cluster, lent as their transactions and dependencies.
 pub type Over<'a, const W: usize> = OverWalk<'a, Stored<W>>;
+
+/// The components of a level, lent: those within the limits of a cluster with their orders, and those over them without.
+pub type Components<'a, const W: usize> = RecordWalk<'a, W>;
 
 /// The transactions of a level, in no order.
 pub type Names<'a, const W: usize> = NameWalk<'a, Stored<W>>;

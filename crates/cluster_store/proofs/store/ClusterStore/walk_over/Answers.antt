@@ -1,6 +1,5 @@
 -- The numbers that are listed are those of the clusters without an order, and some more.
-use Rattle.std.proofs.Common.{ℕ, nat_eq, List, sym, ap, ◌∙◌, subst}
-use Rattle.std.specs.List.{IsDistinct}
+use Rattle.std.proofs.Common.{ap, ◌∙◌}
 use Rattle.cluster_store.specs.Stores.{Store}
 use Rattle.cluster_store.specs.Overs.{lacking_in, lacking_of}
 use Rattle.cluster_store.proofs.Kept.{shelved_at}

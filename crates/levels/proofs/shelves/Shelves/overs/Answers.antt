@@ -3,7 +3,6 @@ use Rattle.std.proofs.Common.{subst}
 use Rattle.cluster_store.specs.Overs.{AreLacking}
 use Rattle.cluster_store.specs.Stores.{Store}
 use Rattle.levels.proofs.Overs.{lends_overs}
-use Rattle.levels.proofs.Rooms.{stored_fits}
 use Rattle.levels.proofs.shelves.Shelves.overs.Goals as goal
 
 pub returns : goal.returns
