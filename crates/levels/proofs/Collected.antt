@@ -118,6 +118,11 @@ module _ (w : ℕ) (shelf : Shelf) (order : IsInOrder w shelf) (txs : Txs) (pair
   pub old_order : IsOrder (is_member old) (is_ancestor old)
   old_order = order_of (64 * w) view order.top
 
+  -- a number that was met has a cluster in the top level
+  pub met_at : (outs : List ℕ) → AreMet shelf pairs outs → (n : ℕ) → Contains outs n → IsSome (view.at n)
+  met_at outs met n out =
+      let (a, b, pair, is) = (met.exact n).0 out in ap is_some (order.top.stands b n is).there
+
   module _ (outs : List ℕ) (met : AreMet shelf pairs outs) (here : List (ℕ × ℕ)) (are : AreHere shelf txs pairs here) (all : Txs)
       (between : List (ℕ × ℕ)) (puts : PutsAll shelf outs txs here all between) where
     abbrev olds : List Cluster

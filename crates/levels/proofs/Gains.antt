@@ -1,32 +1,38 @@
 -- The rings are right again where transactions came into both levels with clusters that went out.
-use Rattle.std.proofs.Common.{◌≡◌, ℕ, ◌+◌, ◌*◌, ◌-◌, ◌≤◌, true, Bool, cond, List, [], length, Contains, None, Some, is_some, IsSome, inl, inr, ◌⊎◌, ◌↔◌, refl, sym, ap, ◌∙◌, subst, subst₂, true≢false, arith}
-use Rattle.std.specs.Prelude.{option_map}
+use Rattle.std.proofs.Common.{◌≡◌, ℕ, ◌+◌, ◌*◌, ◌-◌, ◌≤◌, true, Bool, cond, List, [], ◌∷◌, ◌++◌, length, Contains, Option, None, Some, is_some, IsSome, inl, inr, ◌⊎◌, ◌↔◌, refl, sym, ap, ◌∙◌, subst, subst₂, true≢false, arith, length-append}
+use Rattle.std.specs.Prelude.{option_map, option_to_list, slice_index}
+use Rattle.std.specs.List.{AllPairs}
 use Rattle.std.specs.FinMap as finmap
 use Rattle.std.specs.FinSet as set
-use Rattle.std.proofs.lemmas.List.{length-map}
+use Rattle.std.proofs.lemmas.List.{append-nil, length-map}
 use Rattle.fee_rate.specs.declared.limits.TheConstants.{MAX_TOTAL}
 use Rattle.graphs.specs.Certificates.{Txs}
 use Rattle.graphs.specs.Closures.{Closure, is_ancestor, is_member}
 use Rattle.graphs.specs.declared.names.Level.TheVariants.{Main, Top}
 use Rattle.graph_model.specs.Changes.{ids_of}
-use Rattle.cluster.specs.Clusters.{Cluster}
-use Rattle.record.specs.Records.{IsConnected}
+use Rattle.cluster.specs.Clusters.{AreApart, Cluster}
+use Rattle.cluster_store.specs.Stores.{Stored}
+use Rattle.cluster_store.proofs.Seen.{seen_is}
+use Rattle.record.specs.Records.{IsConnected, IsFitted}
 use Rattle.name_book.specs.Books.{IsNamed}
-use Rattle.levels.specs.Changes.{AreAt, IsRebuilt}
+use Rattle.levels.specs.Changes.{AreAt, Covers, IsRebuilt}
 use Rattle.levels.specs.Changes.{IsNamed as HasName}
-use Rattle.levels.specs.Gathered.{GainsAll, MayReturn, RestoresTop}
+use Rattle.levels.specs.Gathered.{ComesBack, GainsAll, MayReturn, RestoresTop}
 use Rattle.levels.specs.Kept.{IsKept, SuitsShelf}
 use Rattle.levels.specs.Levels.{Levels}
 use Rattle.levels.specs.Restores.{PutsTxs}
 use Rattle.levels.specs.Rings.{AreNamedOnce, AreRight, IsMarked, Ringed, ShareMain}
-use Rattle.levels.specs.Shelves.{IsInOrder, Shelf, levels_of, numbers_at, one_of, stored_at, view_of}
+use Rattle.levels.specs.Shelves.{IsInOrder, Shelf, levels_of, numbers_at, one_of, seen_at, stored_at, view_of}
 use Rattle.levels.specs.Stays.{AllStay}
+use Rattle.levels.specs.Tops.{IsMade, TopRebuilds}
 use Rattle.levels.specs.Views.{graph_of}
 use Rattle.levels.proofs.Counts.{len_fewer}
 use Rattle.levels.proofs.Graphs.{member-number, order_of}
 use Rattle.levels.proofs.Lookups.{decide_named}
+use Rattle.levels.proofs.Ordered.{fitted_record}
+use Rattle.levels.proofs.Pointing.{one_list}
 use Rattle.levels.proofs.Regrouping.{Regroups, named_olds, right_regrouped}
-use Rattle.levels.proofs.Returned.{news_named, puts_away, puts_txs}
+use Rattle.levels.proofs.Returned.{covers_back, news_named, puts_away, puts_txs}
 use Rattle.levels.proofs.Comings.{has_name}
 use Rattle.levels.proofs.Shelved.{none_of, one_view}
 use Rattle.levels.proofs.Tallies.{mains_are_tops}
@@ -34,6 +40,36 @@ use Rattle.levels.proofs.Touching.{in_one, same_named}
 use Rattle.levels.proofs.Turning.{changed, news_whole, rebuilt}
 use Rattle.levels.proofs.Turned.{kept_turned}
 use Rattle.levels.proofs.Unmoved.{top_stays}
+
+-- ---- what came in, without a last one
+
+no_number : (made : List ℕ) (number : Option ℕ) (rest : List Cluster) → length made ≡ length rest
+    → length (made ++ option_to_list number) ≡ length (rest ++ []) → number ≡ None
+no_number made None rest same long = refl
+no_number made (Some n) rest same long =
+    absurd (omega (arith, same, long, length-append made (n ∷ []), length-append rest []))
+
+pub rebuilds_only : (w : ℕ) (txs : Txs) (pairs : List (ℕ × ℕ)) (outs made : List ℕ) (number : Option ℕ) (news : List Cluster) (old new : Shelf)
+    → (comes : ComesBack w txs pairs outs news old) → IsMade w outs made number news None [] old new
+    → TopRebuilds w outs made comes.gathers.puts.olds news [] old new
+rebuilds_only w txs pairs outs made number news old new comes is =
+    let none : number ≡ None = no_number made number news is.count is.rebuilds.top.exchanges.stand.count in
+    let olds : is.olds ≡ comes.gathers.puts.olds =
+    one_list (seen_at Top old.store.clusters) outs is.olds comes.gathers.puts.olds is.rebuilds.top.taken comes.gathers.puts.at in
+    subst (λ (cs : List Cluster). TopRebuilds w outs made cs news [] old new) olds
+    (subst₂ (λ (ns : List ℕ) (cs : List Cluster). TopRebuilds w outs ns is.olds cs [] old new)
+    (ap (λ (o : Option ℕ). made ++ option_to_list o) none ∙ append-nil made) (append-nil news) is.rebuilds)
+
+-- it may come in
+pub covers_comes : (w : ℕ) (txs : Txs) (pairs : List (ℕ × ℕ)) (outs : List ℕ) (news : List Cluster) (shelf : Shelf) → IsInOrder w shelf
+    → MayReturn shelf txs pairs → (comes : ComesBack w txs pairs outs news shelf)
+    → Covers (64 * w) comes.gathers.puts.olds news [] (numbers_at Top shelf)
+covers_comes w txs pairs outs news shelf order may comes =
+    covers_back w shelf order txs pairs may outs comes.links comes.gathers news comes.split (λ c here. (fitted_in c here).connected)
+    (λ c here. fitted_record (64 * w) shelf.limits c (fitted_in c here))
+  where
+    fitted_in : (c : Cluster) → Contains news c → IsFitted (64 * w) shelf.limits c
+    fitted_in c (i, low, at) = subst (IsFitted (64 * w) shelf.limits) at (comes.fitted i c low)
 
 module _ (w : ℕ) (txs : Txs) (pairs : List (ℕ × ℕ)) (old new : Shelf) (before : IsInOrder w old) (after : IsInOrder w new)
     (may : MayReturn old txs pairs) (d : RestoresTop w txs pairs old new) where
@@ -69,11 +105,35 @@ module _ (w : ℕ) (txs : Txs) (pairs : List (ℕ × ℕ)) (old new : Shelf) (be
 
   -- ---- the rings
 
+  pub news_at : AreAt (stored_at new.store.clusters) d.made d.news
+  news_at = record {
+    count = d.rebuilds.top.exchanges.stand.count;
+    stand = λ i c is.
+        let seen = seen_is Top (finmap.get new.store.clusters (slice_index d.made i)) c (d.rebuilds.top.exchanges.stand.stand i c is) in
+        ap (option_map (λ (s : Stored). s.cluster)) seen.1 ∙ ap Some seen.2;
+  }
+
+  one_news : (clusters : List Cluster) → AreAt (stored_at new.store.clusters) d.made clusters → d.news ≡ clusters
+  one_news clusters are = one_list (stored_at new.store.clusters) d.made d.news clusters news_at are
+
+  pub news_apart : (clusters : List Cluster) → AreAt (stored_at new.store.clusters) d.made clusters → AllPairs AreApart clusters
+  news_apart clusters are = subst (λ (cs : List Cluster). AllPairs AreApart cs) (one_news clusters are) d.comes.split.apart
+
+  -- the names of what came in are in the rings
+  pub news_live : old.staging ≡ None → (rings : Ringed) → SuitsShelf rings old → (more : Ringed) → GainsAll ids rings more → (clusters : List Cluster)
+      (x : ℕ) → AreAt (stored_at new.store.clusters) d.made clusters → HasName clusters x → IsNamed more.book x
+  news_live none rings right more gains clusters x are named =
+      (gains.names x).1 (elim ((named_is x).0 (subst (λ (cs : List Cluster). HasName cs x) (sym (one_news clusters are)) named)) [
+        | inl here ↦ inr here
+        | inr out ↦ inl (named_olds (64 * w) d.outs d.made olds d.news [] (view_of Top old) (view_of Top new) before.top after.top d.rebuilds.top rings
+            ((in_one rings old none).0 right) x out)
+      ])
+
   module _ (none : old.staging ≡ None) (rings : Ringed) (right : SuitsShelf rings old) (more : Ringed) (gains : GainsAll ids rings more) (cut : Ringed)
       (names : cut.book.names ≡ more.book.names)
       (main : (clusters : List Cluster) (x y : ℕ) → AreAt (stored_at new.store.clusters) d.made clusters
       → ShareMain cut x y ↔ ((ShareMain more x y × (HasName clusters x → ⊥) × (HasName clusters y → ⊥)) ⊎ AreNamedOnce clusters x y))
-      (at : AreAt (stored_at new.store.clusters) d.made d.news) (touched : (x : ℕ) → IsMarked cut x ↔ IsMarked more x) where
+      (touched : (x : ℕ) → IsMarked cut x ↔ IsMarked more x) where
     right_one : AreRight rings (numbers_at Top old) (numbers_at Top old)
     right_one = (in_one rings old none).0 right
 
@@ -112,14 +172,14 @@ module _ (w : ℕ) (txs : Txs) (pairs : List (ℕ × ℕ)) (old new : Shelf) (be
         ])),
       );
       main = λ x y. (
-        λ share. elim ((main d.news x y at).0 share) [
+        λ share. elim ((main d.news x y news_at).0 share) [
           | inl away ↦ elim ((gains.main x y).0 away.0) [
             | inl was ↦ inl (was, (λ out. away.1 ((named_is x).1 (inr out))), (λ out. away.2 ((named_is y).1 (inr out))))
             | inr alone ↦ absurd (away.1 ((named_is x).1 (inl alone.0)))
           ]
           | inr once ↦ inr once
         ],
-        λ either. (main d.news x y at).1 (elim either [
+        λ either. (main d.news x y news_at).1 (elim either [
           | inl was ↦
               let out = share_old x y was.0 in inl (
                 (gains.main x y).1 (inl was.0),

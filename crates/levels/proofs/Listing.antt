@@ -1,6 +1,7 @@
 -- Transactions, pairs and clusters that are looked at one after the other.
 use Rattle.std.proofs.Common.{◌≡◌, ℕ, ℤ, zero, suc, ◌+◌, ◌<◌, ◌≤◌, Bool, true, false, cond, nat_eq, eq-eqb, eqb-true, List, [], ◌∷◌, ◌++◌, take, drop, length, map, flat_map, get_or, Contains, Option, Some, None, is_some, IsSome, inl, inr, ◌⊎◌, ◌↔◌, refl, sym, ap, ap₂, ◌∙◌, subst, subst₂, true≢false, arith, append_assoc, length-append}
-use Rattle.std.specs.Prelude.{slice_index}
+use Rattle.std.specs.Prelude.{option_map, slice_index, MatchResult, Result, Ok, Err}
+use Rattle.std.specs.Result.{IsErrAnd}
 use Rattle.std.specs.FinMap as finmap
 use Rattle.std.specs.FinSet as set
 use Rattle.std.proofs.lemmas.Grind.{flat_map-append}
@@ -19,12 +20,15 @@ use Rattle.name_book.specs.Calls.{Gains}
 use Rattle.record.specs.Kept.{unordered}
 use Rattle.record.specs.Leaving.{AreLike, bare}
 use Rattle.record.specs.Restoring.{PutsBehind}
+use Rattle.cluster_store.specs.Stores.{Stored}
 use Rattle.cluster_store.proofs.Listed.{at_joined}
+use Rattle.cluster_store.proofs.Seen.{seen_is}
 use Rattle.levels.specs.Changes.{AreAt}
 use Rattle.levels.specs.Gathered.{AreHere, AreMet, GainsAll, HasMore, HasNames, IsHere, KeepsPair, ListsSet, PutsAll}
 use Rattle.levels.specs.Rings.{Ringed}
 use Rattle.levels.proofs.Ends.{got}
-use Rattle.levels.specs.Shelves.{Shelf, numbers_at, seen_at}
+use Rattle.levels.proofs.Graphs.{cases_option}
+use Rattle.levels.specs.Shelves.{Shelf, numbers_at, seen_at, stored_at}
 
 put_cases : (e h : Bool) → cond e true h ≡ true → (e ≡ true) ⊎ (h ≡ true)
 put_cases true h k = inl refl
@@ -279,3 +283,18 @@ gains_more ids id old mid new done gains = record {
   len = omega (arith, gains.len, done.len, length-append ids (id ∷ []));
   issued = omega (arith, gains.issued, done.issued, length-append ids (id ∷ []));
 }
+
+-- a number that is seen in the top level has the cluster that is stored there
+pub seen_here : (shelf : Shelf) (n : ℕ) (c : Cluster) → IsSome (seen_at Top shelf.store.clusters n) → stored_at shelf.store.clusters n ≡ Some c
+    → seen_at Top shelf.store.clusters n ≡ Some c
+seen_here shelf n c some is = elim (cases_option (seen_at Top shelf.store.clusters n)) [
+  | inl none ↦ absurd (true≢false (sym some ∙ ap is_some none))
+  | inr seen ↦
+      let at = seen_is Top (finmap.get shelf.store.clusters n) seen.0 seen.1 in
+      seen.1 ∙ ap Some (sym at.2 ∙ same_Some at.0.cluster c (sym (ap (option_map (λ (s : Stored). s.cluster)) at.1) ∙ is))
+]
+
+-- what holds of a result that hands on an error
+pub handed : {T E : Type 0} (Q : T → Type 0) (P : E → Type 0) (r : Result T E) (e : E) → IsErrAnd r (λ y. y ≡ e) → P e → MatchResult r Q P
+handed Q P (Ok x) e is holds = absurd is
+handed Q P (Err y) e is holds = subst P (sym is) holds

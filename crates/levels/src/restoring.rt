@@ -111,11 +111,11 @@ impl<const W: usize> Shelves<W> {
             (λ why. why ≢ Memory → BringsOver self.now.limits (graph_of (view_of Top self.now)) txs.now pairs.now why) }
         ensures steps { RestoresWithin self.now.limits (graph_of (view_of Top self.now)) txs.now pairs.now steps.old steps.new }
     {
-        let Ok(gathered) = self.gathered(txs, pairs) else {
+        let Ok(found) = self.gathered(txs, pairs) else {
             return Err(Refusal::Memory);
         };
-        let news = Record::all_of(self.alloc, &gathered.links, &self.limits, work, steps)?;
-        let Gathered { outs, links: _ } = gathered;
+        let Gathered { outs, links } = found;
+        let news = Record::all_of(self.alloc, &links, &self.limits, work, steps)?;
         Ok(Returned { outs, news })
     }
 
@@ -134,6 +134,7 @@ impl<const W: usize> Shelves<W> {
         let mut all = Vec::from_slice(self.alloc, txs)?;
         self.put_all(outs.as_slice(), &mut all, &mut between)?;
         let links = Links::new(self.alloc, all.as_slice(), between.as_slice())?;
+        let _txs = links.txs();
         Ok(Gathered { outs, links })
     }
 
