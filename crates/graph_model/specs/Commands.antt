@@ -81,7 +81,3 @@ HasTypes (Chunk id) = id < 2 ^ 64
 HasTypes (Before a b) = (a < 2 ^ 64) × (b < 2 ^ 64)
 HasTypes (Block size) = size < 2 ^ 64
 HasTypes command = Unit {0}
-
--- The program does the command already. A line that spells another one is in no form, until its body is there.
-abbrev pub IsBuilt : Command → Type 0
-IsBuilt command = Unit {0}

@@ -1,6 +1,6 @@
 -- How bytes are cut into lines, and what a line says.
 use Rattle.std.specs.Prelude.{◌≡◌, ◌≢◌, ℕ, Bool, true, false, ◌==◌, if◌then◌else◌, List, [], ◌∷◌, ◌++◌, flat_map, All}
-use Rattle.graph_model.specs.Commands.{Command, words_of, HasTypes, IsBuilt}
+use Rattle.graph_model.specs.Commands.{Command, words_of, HasTypes}
 use Rattle.graph_model.specs.Words.{spaced, line_text}
 use Rattle.graph_model.specs.declared.limits.TheConstants.{MAX_LINE, MAX_INPUT}
 
@@ -50,5 +50,5 @@ Spells text command = (text ≡ spaced (words_of command)) × HasTypes command
 -- a line, without its line feed, means this
 abbrev pub Means : List ℕ → Meaning → Type 0
 Means line Quiet = is_quiet (without_return line) ≡ true
-Means line (Says command) = (is_quiet (without_return line) ≡ false) × Spells (without_return line) command × IsBuilt command
-Means line NoForm = (is_quiet (without_return line) ≡ false) × ((command : Command) → Spells (without_return line) command → IsBuilt command → ⊥)
+Means line (Says command) = (is_quiet (without_return line) ≡ false) × Spells (without_return line) command
+Means line NoForm = (is_quiet (without_return line) ≡ false) × ((command : Command) → Spells (without_return line) command → ⊥)

@@ -9,7 +9,7 @@ use Rattle.wire.specs.declared.form.Form.{Form}
 use Rattle.wire.specs.declared.form.Form.TheVariants as forms
 use Rattle.wire.specs.declared.line.Line.{Line}
 use Rattle.wire.specs.declared.line.Line.TheVariants as lines
-use Rattle.wire.specs.Readings.{said_by, TextSays, FormSays}
+use Rattle.wire.specs.Readings.{meaning_of, TextSays, FormSays}
 use Rattle.wire.specs.Fields.{ReadsAs, IsOneWord}
 use Rattle.wire.specs.Forms.{row_of, form_word, Fields, FieldsFit, fields_text, rest_text, behind}
 use Rattle.wire.proofs.ReadLemmas.{same_split, split_unread}
@@ -178,5 +178,5 @@ row_unread form found rest line is filled none nothing ids =
     some_same a b e = cc
 
 -- a line that says the same whatever names are listed lists none
-pub lists_none : (text : List ℕ) (said : Line) → ((ids : List ℕ) → TextSays text (said_by said ids)) → said ≡ lines.Mine → ⊥
-lists_none text said says is = (subst (λ (l : Line). TextSays text (said_by l [])) is (says [])).1.0 refl
+pub lists_none : (text : List ℕ) (said : Line) → ((ids : List ℕ) → TextSays text (meaning_of said ids)) → said ≡ lines.Mine → ⊥
+lists_none text said says is = (subst (λ (l : Line). TextSays text (meaning_of l [])) is (says [])).1.0 refl

@@ -5,7 +5,6 @@ pub mod NumberLemmas
 pub mod FormLemmas
 pub mod RowLemmas
 pub mod CommandLemmas
-pub mod MeaningLemmas
 pub mod DeferLemmas
 pub mod ChunkLemmas
 pub mod NameLemmas

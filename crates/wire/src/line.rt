@@ -2,7 +2,7 @@ ghost use Rattle.std.specs.Prelude.{◌≡◌, ◌≢◌, ℕ, List, [], ◌-◌
 ghost use Rattle.graph_model.specs.Lines.{Means, max_line, without_return};
 ghost use Rattle.wire.specs.Fields.{IsOneWord};
 ghost use Rattle.wire.specs.Forms.{form_word, names_text, AreNames};
-ghost use Rattle.wire.specs.Readings.{said_by, meaning_of, LineSays, TextSays, FormSays};
+ghost use Rattle.wire.specs.Readings.{meaning_of, TextSays, FormSays};
 
 use crate::field::{Deferrable, Field};
 use crate::form::{Form, form_of};
@@ -75,7 +75,6 @@ pub enum Line {
 pub fn read_line(bytes: &[u8], ids: &mut IdBuf) -> Line
     requires short { length bytes.now ≤ max_line }
     requires room { 32766 ≤ length ids.old.ids + ids.old.room }
-    ensures says { LineSays bytes.now (said_by result ids.new.ids) }
     ensures meaning { Means bytes.now (meaning_of result ids.new.ids) }
     ensures names { (result ≡ Line.Mine → ⊥) → ids.new.ids ≡ [] }
     ensures room { length ids.new.ids + ids.new.room ≡ length ids.old.ids + ids.old.room }
@@ -114,7 +113,7 @@ fn before_return(bytes: &[u8]) -> Option<&[u8]>
 fn read_text(text: &[u8], ids: &mut IdBuf) -> Line
     requires empty { ids.old.ids ≡ [] }
     requires room { length text.now < 2 * ids.old.room + 5 }
-    ensures says { TextSays text.now (said_by result ids.new.ids) }
+    ensures says { TextSays text.now (meaning_of result ids.new.ids) }
     ensures names { (result ≡ Line.Mine → ⊥) → ids.new.ids ≡ [] }
     ensures room { length ids.new.ids + ids.new.room ≡ ids.old.room }
 {
@@ -127,7 +126,7 @@ fn read_text(text: &[u8], ids: &mut IdBuf) -> Line
 /// What a line of one word says.
 fn read_word(word: &[u8]) -> Line
     requires { IsOneWord word.now }
-    ensures says { (ids : List ℕ) → TextSays word.now (said_by result ids) }
+    ensures says { (ids : List ℕ) → TextSays word.now (meaning_of result ids) }
     ensures names { result ≡ Line.Mine → ⊥ }
 {
     match form_of(word) {
@@ -138,7 +137,7 @@ fn read_word(word: &[u8]) -> Line
 
 /// What a line of a form's first word alone says.
 fn bare(form: Form) -> Line
-    ensures says { (ids : List ℕ) → TextSays (form_word form) (said_by result ids) }
+    ensures says { (ids : List ℕ) → TextSays (form_word form) (meaning_of result ids) }
     ensures names { result ≡ Line.Mine → ⊥ }
 {
     match form {
@@ -160,7 +159,7 @@ fn read_words(word: &[u8], rest: &[u8], ids: &mut IdBuf) -> Line
     requires one { IsOneWord word.now }
     requires empty { ids.old.ids ≡ [] }
     requires room { length word.now + length rest.now < 2 * ids.old.room + 4 }
-    ensures says { TextSays (word.now ++ 32 ∷ rest.now) (said_by result ids.new.ids) }
+    ensures says { TextSays (word.now ++ 32 ∷ rest.now) (meaning_of result ids.new.ids) }
     ensures names { (result ≡ Line.Mine → ⊥) → ids.new.ids ≡ [] }
     ensures room { length ids.new.ids + ids.new.room ≡ ids.old.room }
 {
@@ -174,7 +173,7 @@ fn read_words(word: &[u8], rest: &[u8], ids: &mut IdBuf) -> Line
 /// What a line of this form with fields of its own kinds says.
 fn read_fields(form: Form, rest: &[u8]) -> Line
     requires { form ≢ Form.Mine }
-    ensures says { (ids : List ℕ) → TextSays (form_word form ++ 32 ∷ rest.now) (said_by result ids) }
+    ensures says { (ids : List ℕ) → TextSays (form_word form ++ 32 ∷ rest.now) (meaning_of result ids) }
     ensures names { result ≡ Line.Mine → ⊥ }
 {
     match fields(form, rest) {
@@ -241,7 +240,7 @@ fn fields(form: Form, rest: &[u8]) -> Option<Line>
 fn mine(rest: &[u8], ids: &mut IdBuf) -> Line
     requires empty { ids.old.ids ≡ [] }
     requires room { length rest.now < 2 * ids.old.room }
-    ensures says { TextSays (form_word Form.Mine ++ 32 ∷ rest.now) (said_by result ids.new.ids) }
+    ensures says { TextSays (form_word Form.Mine ++ 32 ∷ rest.now) (meaning_of result ids.new.ids) }
     ensures names { (result ≡ Line.Mine → ⊥) → ids.new.ids ≡ [] }
     ensures room { length ids.new.ids + ids.new.room ≡ ids.old.room }
 {
