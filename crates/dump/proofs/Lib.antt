@@ -1,5 +1,0 @@
-mod Dumped
-mod Listed
-mod Rising
-mod Rooms
-mod Walking

@@ -1,2 +1,0 @@
-mod ByComponents
-mod TrimLaw
