@@ -1,0 +1,5 @@
+mod Dumped
+mod Listed
+mod Rising
+mod Rooms
+mod Walking

@@ -1,0 +1,5 @@
+pub mod Lifted
+mod Blocks
+mod Descending
+mod Whole
+mod Pairing

@@ -1,0 +1,6 @@
+mod ByComponents
+mod Gathering
+mod Standing
+mod Summing
+mod Together
+mod TrimLaw

@@ -1,0 +1,12 @@
+pub mod Tying
+pub mod Listing
+pub mod Keys
+pub mod Finding
+pub mod Counting
+pub mod Ordering
+pub mod Netting
+pub mod Teaming
+pub mod Turning
+pub mod Joined
+pub mod Dropping
+pub mod Renaming
