@@ -1,5 +1,5 @@
 -- The rings are right again where transactions came into both levels with clusters that went out.
-use Rattle.std.proofs.Common.{◌≡◌, ℕ, ◌+◌, ◌*◌, ◌-◌, ◌≤◌, true, Bool, cond, List, [], ◌∷◌, ◌++◌, length, Contains, Option, None, Some, is_some, IsSome, inl, inr, ◌⊎◌, ◌↔◌, refl, sym, ap, ◌∙◌, subst, subst₂, true≢false, arith, length-append}
+use Rattle.std.proofs.Common.{◌≡◌, ℕ, ℤ, ◌+◌, ◌*◌, ◌-◌, ◌^◌, ◌≤◌, true, Bool, cond, List, [], ◌∷◌, ◌++◌, length, Contains, Option, None, Some, is_some, IsSome, inl, inr, ◌⊎◌, ◌↔◌, refl, sym, ap, ◌∙◌, subst, subst₂, true≢false, arith, length-append}
 use Rattle.std.specs.Prelude.{option_map, option_to_list, slice_index}
 use Rattle.std.specs.List.{AllPairs}
 use Rattle.std.specs.FinMap as finmap
@@ -20,14 +20,17 @@ use Rattle.levels.specs.Changes.{IsNamed as HasName}
 use Rattle.levels.specs.Gathered.{ComesBack, GainsAll, MayReturn, RestoresTop}
 use Rattle.levels.specs.Kept.{IsKept, SuitsShelf}
 use Rattle.levels.specs.Levels.{Levels}
-use Rattle.levels.specs.Restores.{PutsTxs}
+use Rattle.levels.specs.Restores.{MayRestore, PutsTxs}
 use Rattle.levels.specs.Rings.{AreNamedOnce, AreRight, IsMarked, Ringed, ShareMain}
 use Rattle.levels.specs.Shelves.{IsInOrder, Shelf, levels_of, numbers_at, one_of, seen_at, stored_at, view_of}
 use Rattle.levels.specs.Stays.{AllStay}
 use Rattle.levels.specs.Tops.{IsMade, TopRebuilds}
 use Rattle.levels.specs.Views.{graph_of}
 use Rattle.levels.proofs.Counts.{len_fewer}
-use Rattle.levels.proofs.Graphs.{member-number, order_of}
+use Rattle.levels.proofs.Finds.{graph_is, member_is}
+use Rattle.levels.proofs.Graphs.{cases_option, member-number, order_of}
+use Rattle.levels.proofs.Fewer.{few_at}
+use Rattle.levels.proofs.Keeping.{live_counted, shelf_alone}
 use Rattle.levels.proofs.Lookups.{decide_named}
 use Rattle.levels.proofs.Ordered.{fitted_record}
 use Rattle.levels.proofs.Pointing.{one_list}
@@ -255,3 +258,39 @@ module _ (w : ℕ) (txs : Txs) (pairs : List (ℕ × ℕ)) (old new : Shelf) (be
 
       pub stays_restored : AllStay now (levels_of new (issued + length txs))
       stays_restored = subst (λ (l : Levels). AllStay l (levels_of new (issued + length txs))) view (puts_stay issued (issued + length txs))
+
+-- ---- what the levels ask
+
+module _ (w mains tops issued : ℕ) (shelf : Shelf) (rings : Ringed) (kept : IsKept w shelf rings mains tops issued) (now : Levels)
+    (view : levels_of shelf issued ≡ now) (txs : Txs) (pairs : List (ℕ × ℕ)) (may : MayRestore now txs pairs) where
+  pub alone_now : shelf.staging ≡ None
+  alone_now = shelf_alone shelf issued now view may.alone
+
+  pub main_top : now.main.graph ≡ graph_of (view_of Top shelf)
+  main_top = graph_is w issued shelf now kept.order view Main ∙ ap graph_of (one_view shelf alone_now (kept.order.both alone_now))
+
+  pub few_more : set.len rings.book.names + length txs ≤ MAX_TOTAL
+  few_more =
+      let few = may.few in
+      let same = live_counted w issued shelf now kept.order view rings kept.right few.0 few.1 in
+      let low = few.2 in
+      omega (arith, same, low)
+
+  pub issued_more : rings.book.issued + length txs ≤ 2 ^ 64 - 1
+  issued_more =
+      let low = may.issued in
+      let was = kept.issued in
+      omega (arith, low, was, ap (λ (l : Levels). l.issued) view)
+
+  pub may_return : MayReturn shelf txs pairs
+  may_return = record {
+    once = may.once;
+    absent = λ id here. elim (cases_option (finmap.get (numbers_at Top shelf) id)) [
+      | inl none ↦ none
+      | inr at ↦ absurd (may.absent id here (inr (member_is w issued shelf now kept.order view Top id ∙ ap is_some at.1)))
+    ];
+    in_range = may.in_range;
+    parents = may.parents;
+    acyclic = may.acyclic;
+    few = (let few = few_more in let among = few_at w shelf rings kept.order kept.right Top in omega (arith, few, among));
+  }

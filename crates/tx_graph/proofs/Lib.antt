@@ -23,3 +23,5 @@ mod Calls
 mod Mined
 mod Rooms
 mod Starts
+mod Returns
+mod Backs

@@ -10,20 +10,20 @@ use Rattle.lists.proofs.Distinct.{distinct_joined}
 use Rattle.lists.proofs.Entries.{Contains-cases, Contains-head, Contains-later, Contains-map, first_of, map-Contains, none_in_empty, rest_of}
 use Rattle.lists.proofs.Told.{cases_pair, told_in, told_number}
 use Rattle.graphs.specs.Certificates.{Txs}
-use Rattle.graphs.specs.Graphs.{Graph, AreConnected, HasNoCycle, IsGraph, Lists}
+use Rattle.graphs.specs.Graphs.{Graph, AreConnected, IsGraph}
 use Rattle.graphs.proofs.ListLemmas.{Lists-for, Lists-same}
 use Rattle.graph_model.specs.declared.names.Refusal.{Refusal}
-use Rattle.graph_model.specs.declared.names.Refusal.TheVariants.{ClusterSize, Count}
+use Rattle.graph_model.specs.declared.names.Refusal.TheVariants.{ClusterSize}
 use Rattle.graph_model.specs.Commands.{Unmine}
 use Rattle.graph_model.specs.Limits.{Bounds, AreOver}
-use Rattle.graph_model.specs.States.{Entry, PlainState, Table, size_in, size_of}
+use Rattle.graph_model.specs.States.{PlainState, Table, size_in, size_of}
 use Rattle.graph_model.specs.Changes.{PutsNames, Restores, begun, ids_of}
 use Rattle.graph_model.specs.Refusals.{BringsOver, FirstOf, IsFirst, IsInOver, NoRefusal, ToldOver}
 use Rattle.graph_model.specs.Steps.{MayGiveWay}
 use Rattle.graph_model.specs.Validity.{IsValid}
 use Rattle.graph_model.proofs.BackLemmas.{graph_put}
 use Rattle.graph_model.proofs.FirstLemmas.{first_in}
-use Rattle.graph_model.proofs.LevelLemmas.{IsTold, connected_told, connects, one_pair, some_list, told_either_way}
+use Rattle.graph_model.proofs.LevelLemmas.{connected_told, connects, one_pair, some_list}
 use Rattle.graph_model.proofs.RestoreLemmas.{CanCome, joined_name, over_told}
 use Rattle.graph_model.proofs.ValidLemmas.{get-put_other, get-put_same}
 use Rattle.tx_graph.specs.Restored.{MayLackMemory}
@@ -62,13 +62,13 @@ select decide P told (x ∷ xs) =
       ))
     ]
 
--- the first entry with a property that can be told, or none has it
-first_or_none : (P : ℕ → Type 0) → ((x : ℕ) → P x ⊎ (P x → ⊥)) → (xs : List ℕ)
+-- the first entry with a property that can be told of each, or none has it
+first_or_none : (P : ℕ → Type 0) → (xs : List ℕ) → ((x : ℕ) → Contains xs x → P x ⊎ (P x → ⊥))
     → ((id : ℕ) × IsFirst (λ before id. P id) xs id) ⊎ ((x : ℕ) → Contains xs x → P x → ⊥)
-first_or_none P told [] = inr (λ x none. absurd (none_in_empty x none))
-first_or_none P told (y ∷ ys) = elim (told y) [
+first_or_none P [] told = inr (λ x none. absurd (none_in_empty x none))
+first_or_none P (y ∷ ys) told = elim (told y (Contains-head y ys)) [
   | inl at_once ↦ inl (y, record { before = []; after = ys; cut = refl; has = at_once; earlier = no_front })
-  | inr not_yet ↦ elim (first_or_none P told ys) [
+  | inr not_yet ↦ elim (first_or_none P ys (λ x here. told x (Contains-later y x ys here))) [
     | inl found ↦ inl (found.0, record {
       before = y ∷ found.1.before;
       after = found.1.after;
@@ -94,9 +94,6 @@ first_or_none P told (y ∷ ys) = elim (told y) [
 
 -- ---- tables
 
-entry : ℕ × ℤ × ℕ → Entry
-entry tx = record { fee = tx.1; size = tx.2 }
-
 -- a table with more transactions
 put_all : Table → Txs → Table
 put_all table [] = table
@@ -105,7 +102,7 @@ put_all table (tx ∷ txs) = finmap.insert (put_all table txs) tx.0 (record { fe
 put_other : (table : Table) (txs : Txs) (id : ℕ) → (Contains (ids_of txs) id → ⊥) → finmap.get (put_all table txs) id ≡ finmap.get table id
 put_other table [] id out = refl
 put_other table (tx ∷ txs) id out =
-    get-put_other (put_all table txs) tx.0 (record { fee = tx.1; size = tx.2 }) id
+    get-put_other (put_all table txs) tx.0 id (record { fee = tx.1; size = tx.2 })
     (λ same. out (subst (Contains (tx.0 ∷ ids_of txs)) (sym same) (Contains-head tx.0 (ids_of txs))))
     ∙ put_other table txs id (λ later. out (Contains-later tx.0 id (ids_of txs) later))
 
@@ -115,11 +112,18 @@ put_listed table [] once id fee size here = absurd (none_in_empty (id, fee, size
 put_listed table (tx ∷ txs) once id fee size here = elim (Contains-cases tx (id, fee, size) txs here) [
   | inl same ↦
       subst (λ (t : ℕ × ℤ × ℕ). finmap.get (put_all table (tx ∷ txs)) t.0 ≡ Some (record { fee = t.1; size = t.2 })) same
-      (get-put_same (put_all table txs) tx.0 (record { fee = tx.1; size = tx.2 }))
+      (get-put_same (put_all table txs) tx.0 tx.0 (record { fee = tx.1; size = tx.2 }) refl)
   | inr later ↦
-      get-put_other (put_all table txs) tx.0 (record { fee = tx.1; size = tx.2 }) id
+      get-put_other (put_all table txs) tx.0 id (record { fee = tx.1; size = tx.2 })
       (λ same. once.0 (subst (Contains (ids_of txs)) same (Contains-map (λ (t : ℕ × ℤ × ℕ). t.0) txs (id, fee, size) later)))
       ∙ put_listed table txs once.1 id fee size later
+]
+
+-- lists as large are told alike
+told_same : (bounds : Bounds) (f h : ℕ → ℕ) (xs : List ℕ) (why : Refusal) → sum_by f xs ≡ sum_by h xs → ToldOver bounds f xs why → ToldOver bounds h xs why
+told_same bounds f h xs why large told = elim told [
+  | inl many ↦ inl many
+  | inr big ↦ inr (big.0, subst (λ n. bounds.size < n) large big.1, big.2 ∙ ap ClusterSize large)
 ]
 
 -- ---- the state then
@@ -197,34 +201,86 @@ module _ (state : PlainState) (valid : IsValid state) (txs : Txs) (pairs : List 
   abbrev Over : ℕ → Type 0
   Over id = (why : Refusal) × IsInOver after id why
 
-  told_over : (id : ℕ) → Over id ⊎ (Over id → ⊥)
-  told_over id = elim (told_number names id) [
-    | inl here ↦
-        let list = some_list (AreConnected graph.pairs id) (connected_told graph.pairs id) (2 ^ 64)
-        (λ n trail. small n (joined_name graph whole id n trail.0 trail.1 here)) in
-        elim (over_or_not state.limits (size_of after.table) list.0) [
-          | inl over ↦ let why = over_told state.limits (size_of after.table) list.0 over in inl (why.0, (list.0, list.1, why.1))
-          | inr within ↦ inr (λ (why, (xs, lists, told)).
-              within (told_is_over state.limits (size_of after.table) list.0 why
-              (subst (λ (ys : List ℕ). ToldOver state.limits (size_of after.table) ys why)
-              (Lists-same (AreConnected graph.pairs id) xs list.0 lists list.1) told)))
-        ]
-    | inr out ↦ alone id out
-  ]
-    where
-      alone : (id : ℕ) → (Contains names id → ⊥) → Over id ⊎ (Over id → ⊥)
-      alone id out = inl (absurd (out id))
+  told_over : (id : ℕ) → Contains ids id → Over id ⊎ (Over id → ⊥)
+  told_over id listed =
+      let here : Contains names id = Contains-append_right state.main.names ids id listed in
+      let list = some_list (AreConnected graph.pairs id) (connected_told graph.pairs id) (2 ^ 64)
+      (λ n trail. small n (joined_name graph whole id n trail.0 trail.1 here)) in
+      elim (over_or_not state.limits (size_of after.table) list.0) [
+        | inl over ↦ let why = over_told state.limits (size_of after.table) list.0 over in inl (why.0, (list.0, list.1, why.1))
+        | inr within ↦ inr (λ (why, (xs, lists, told)).
+            within (told_is_over state.limits (size_of after.table) list.0 why
+            (subst (λ (ys : List ℕ). ToldOver state.limits (size_of after.table) ys why)
+            (Lists-same (AreConnected graph.pairs id) xs list.0 lists list.1) told)))
+      ]
 
   -- what another state that comes so has over the limits, this one has
-  alike : (next : PlainState) → Restores state txs pairs next → (id : ℕ) (why : Refusal) → IsInOver next id why → IsInOver after id why
-  alike next other id why (xs, lists, told) = (
-    xs,
-    Lists-for (AreConnected next.main.pairs id) (AreConnected graph.pairs id) xs
-        (λ q. connects next.main.pairs graph.pairs (λ a b pair. one_pair graph.pairs a b ((puts.pairs a b).1 (same_pair a b ((other.graph.pairs a b).0 pair)))) id q)
-        (λ q. connects graph.pairs next.main.pairs (λ a b pair. one_pair next.main.pairs a b ((other.graph.pairs a b).1 (back_pair a b ((puts.pairs a b).0 pair)))) id q)
-        lists,
-    subst₂ (λ (bounds : Bounds) (n : ℕ). ToldAt bounds n xs why) (ap (λ (s : PlainState). s.limits) other.same) (sizes xs) (at_of next.limits (size_of next.table) xs why told),
-  )
-    where
-      ToldAt : Bounds → ℕ → List ℕ → Refusal → Type 0
-      ToldAt bounds n xs why = ⊥
+  module _ (next : PlainState) (other : Restores state txs pairs next) where
+    same_names : (id : ℕ) → Contains next.main.names id ↔ Contains names id
+    same_names id = (λ here. (puts.names id).1 ((other.graph.names id).0 here), λ here. (other.graph.names id).1 ((puts.names id).0 here))
+
+    to_pair : (a b : ℕ) → Contains next.main.pairs (a, b) → Contains graph.pairs (a, b)
+    to_pair a b pair = (puts.pairs a b).1 (elim ((other.graph.pairs a b).0 pair) [
+      | inl was ↦ inl was
+      | inr put ↦ inr (put.0, (same_names b).0 put.1)
+    ])
+
+    from_pair : (a b : ℕ) → Contains graph.pairs (a, b) → Contains next.main.pairs (a, b)
+    from_pair a b pair = (other.graph.pairs a b).1 (elim ((puts.pairs a b).0 pair) [
+      | inl was ↦ inl was
+      | inr put ↦ inr (put.0, (same_names b).1 put.1)
+    ])
+
+    same_size : (id : ℕ) → size_of next.table id ≡ size_of after.table id
+    same_size id = ap size_in (elim (told_number ids id) [
+      | inl listed ↦
+          let (tx, here, named) = map-Contains (λ (t : ℕ × ℤ × ℕ). t.0) txs id listed in
+          subst (λ x. finmap.get next.table x ≡ finmap.get after.table x) named
+          (other.listed tx.0 tx.1 tx.2 here ∙ sym (restores.listed tx.0 tx.1 tx.2 here))
+      | inr out ↦ other.others id out ∙ sym (restores.others id out)
+    ])
+
+    pub alike : (id : ℕ) (why : Refusal) → IsInOver next id why → IsInOver after id why
+    alike id why (xs, lists, told) = (
+      xs,
+      Lists-for (AreConnected next.main.pairs id) (AreConnected graph.pairs id) xs
+          (connects next.main.pairs graph.pairs (λ a b pair. one_pair graph.pairs a b (to_pair a b pair)) id)
+          (connects graph.pairs next.main.pairs (λ a b pair. one_pair next.main.pairs a b (from_pair a b pair)) id) lists,
+      told_same state.limits (size_of next.table) (size_of after.table) xs why
+          (sum_by_along (size_of next.table) (size_of after.table) xs (λ id here. same_size id))
+          (subst (λ (bounds : Bounds). ToldOver bounds (size_of next.table) xs why) (ap (λ (s : PlainState). s.limits) other.same) told),
+    )
+
+  gives_way : (id : ℕ) (why : Refusal) → IsInOver after id why → MayGiveWay Unmine why
+  gives_way id why (xs, lists, told) = elim told [
+    | inl many ↦ subst (MayGiveWay Unmine) (sym many.1) tt
+    | inr large ↦ subst (MayGiveWay Unmine) (sym large.2) tt
+  ]
+
+  -- whether such a component would come can be told, and its refusal may give way
+  pub over_found : (found : Option Refusal) × FirstOf (BringsOver state txs pairs) NoRefusal found × MayLackMemory found
+  over_found = elim (cases_Bool state.limits.defer) [
+    | inl defers ↦ (None, inr ((λ why over. true≢false (sym defers ∙ over.strict)), refl), tt)
+    | inr strict ↦ elim (first_or_none Over ids told_over) [
+      | inl first ↦
+          let why = first.1.has.0 in
+          let over : BringsOver state txs pairs why = record {
+            strict = strict;
+            next = after;
+            restores = restores;
+            id = first.0;
+            first = first.1;
+            over = first.1.has.1;
+          } in
+          (Some why, inl (why, over, refl), gives_way first.0 why first.1.has.1)
+      | inr none ↦ (
+        None,
+        inr (
+          (λ why over. none over.id (first_in (λ before id. (any : Refusal) × IsInOver over.next id any) ids over.id over.first)
+              (why, alike over.next over.restores over.id why over.over)),
+          refl,
+        ),
+        tt,
+      )
+    ]
+  ]
