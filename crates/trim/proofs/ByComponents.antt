@@ -1,6 +1,6 @@
 -- Trimming a graph, and some of its components as a graph of their own: the names of these that are looked at, in their turns, with their marks, are
 -- a marking of the part.
-use Rattle.std.proofs.Common.{◌≡◌, ◌≢◌, ◌↔◌, ◌⊎◌, ℕ, suc, zero, ◌<◌, length, length-append, Bool, true, false, cond, List, [], ◌∷◌, ◌++◌, inl, inr, refl, sym, ap, ◌∙◌, subst, append_assoc, append-nil, arith, true≢false}
+use Rattle.std.proofs.Common.{◌≡◌, ◌≢◌, ◌↔◌, ℕ, suc, zero, ◌<◌, length, length-append, Bool, true, false, cond, List, [], ◌∷◌, ◌++◌, inl, inr, refl, sym, ap, ◌∙◌, subst, append_assoc, append-nil, arith, true≢false}
 use Rattle.std.specs.Prelude.{Contains, filter, sum_by}
 use Rattle.std.proofs.lemmas.Bool.{cases_Bool}
 use Rattle.arithmetic.proofs.Sums.{sum_by_along}
@@ -66,7 +66,7 @@ both_is ids a b here there = ap (λ (t : Bool). cond t (among ids b) false) (amo
 pairs_among : (pairs : List (ℕ × ℕ)) (ids : List ℕ) → PairsAmong pairs ids (filter (both_among ids) pairs)
 pairs_among pairs ids a b = (
   λ here. let found = filter-Contains (both_among ids) pairs (a, b) here in
-    let ends = both_yes ids a b found.0 in (found.1, ends.0, ends.1),
+      let ends = both_yes ids a b found.0 in (found.1, ends.0, ends.1),
   λ is. Contains-filter (both_among ids) pairs (a, b) (both_is ids a b is.1 is.2) is.0,
 )
 

@@ -1,5 +1,5 @@
 -- What the states that a graph stands for say of its top level.
-use Rattle.std.proofs.Common.{◌≡◌, ℕ, ◌≤◌, true, false, List, length, is_some, is_err, Result, Ok, Err, IfOk, IfErr, inl, inr, refl, sym, ap, ◌∙◌, subst, arith, true≢false}
+use Rattle.std.proofs.Common.{◌≡◌, ℕ, ◌≤◌, true, false, List, length, is_some, is_err, Result, Ok, Err, IfOk, IfErr, inr, refl, sym, ap, ◌∙◌, subst, arith, true≢false}
 use Rattle.std.specs.Prelude.{Contains}
 use Rattle.std.specs.FinMap as finmap
 use Rattle.lists.specs.Distinct.{AreDistinct}

@@ -1,11 +1,11 @@
 -- Fees and sizes of names, summed one by one.
 use Rattle.std.proofs.Common.{◌≡◌, ℕ, ◌+◌, ◌<◌, ◌≤◌, List, [], ◌∷◌, ◌++◌, length, take, get_or, sym, ap, ◌∙◌, subst, arith, ℤ, ◌+ℤ◌}
-use Rattle.std.specs.Prelude.{Contains, All}
+use Rattle.std.specs.Prelude.{Contains, All, unsigned_abs}
 use Rattle.std.proofs.lemmas.Int.{ints}
 use Rattle.std.proofs.lemmas.List.{take_more, length-take-le}
-use Rattle.std.proofs.lemmas.List.Sums.{sum_by-append}
+use Rattle.std.proofs.lemmas.List.Sums.{sum_by-append, sum_by-le}
 use Rattle.std.proofs.lemmas.List.Elements.{Contains-get_or, All-take}
-use Rattle.arithmetic.proofs.Sums.{total-append, total_within, sum_by_within}
+use Rattle.arithmetic.proofs.Sums.{total-append, total_within}
 use Rattle.fee_rate.specs.declared.limits.TheConstants.{MAX_FEE, MAX_SIZE, MAX_TOTAL}
 use Rattle.fee_rate.specs.declared.rates.FeeRate.{FeeRate}
 use Rattle.fee_rate.specs.declared.rates.Sum.{Sum}
@@ -21,12 +21,12 @@ module _ (rate : ℕ → FeeRate) (ids : List ℕ) (fine : (id : ℕ) → Contai
   -- the sum of the first of them is in range
   pub front_in_range : (k : ℕ) (sum : Sum) → k ≤ length ids → sum ≡ sums sum_at (take k ids) → IsSum sum
   front_in_range k sum short is =
-      let fees : All (λ id. Rattle.std.specs.Prelude.unsigned_abs (sum_at id).fee ≤ MAX_FEE) (take k ids) =
-      All-take (λ id. Rattle.std.specs.Prelude.unsigned_abs (sum_at id).fee ≤ MAX_FEE) k ids (λ i d below. (fine (get_or ids i d) (Contains-get_or ids i d below)).fee) in
+      let fees : All (λ id. unsigned_abs (sum_at id).fee ≤ MAX_FEE) (take k ids) =
+      All-take (λ id. unsigned_abs (sum_at id).fee ≤ MAX_FEE) k ids (λ i d below. (fine (get_or ids i d) (Contains-get_or ids i d below)).fee) in
       let sizes : All (λ id. (sum_at id).size ≤ MAX_SIZE) (take k ids) =
       All-take (λ id. (sum_at id).size ≤ MAX_SIZE) k ids (λ i d below. (fine (get_or ids i d) (Contains-get_or ids i d below)).size) in
       let fee = total_within (λ id. (sum_at id).fee) MAX_FEE (take k ids) fees in
-      let size = Rattle.std.proofs.lemmas.List.Sums.sum_by-le (λ id. (sum_at id).size) MAX_SIZE (take k ids) sizes in
+      let size = sum_by-le (λ id. (sum_at id).size) MAX_SIZE (take k ids) sizes in
       let long = length-take-le k ids short in
       subst IsSum (sym is) (record { fee = omega (arith, ints); size = omega (arith, ints) })
 

@@ -1,14 +1,14 @@
 -- What is dropped of the components over the limits, together and in rising order, is what trimming drops of the level.
-use Rattle.std.proofs.Common.{◌≡◌, ◌↔◌, ◌⊎◌, ℕ, suc, ◌+◌, ◌<◌, ◌≤◌, true, false, Bool, cond, eqb, eq-eqb, ℤ, List, [], ◌∷◌, ◌++◌, map, flat_map, length, inl, inr, refl, sym, ap, ◌∙◌, subst, arith}
+use Rattle.std.proofs.Common.{◌≡◌, ◌↔◌, ℕ, ◌+◌, true, eqb, eq-eqb, ℤ, List, [], ◌∷◌, ◌++◌, map, flat_map, inl, inr, refl, sym, ap, ◌∙◌, subst}
 use Rattle.std.specs.Prelude.{Contains, nat_eq}
 use Rattle.std.specs.Cmp.{nat_eq_equiv}
 use Rattle.std.specs.List.{IsDistinct}
-use Rattle.std.specs.List.Sorted.{IsPermutation, IsNonDecreasing}
+use Rattle.std.specs.List.Sorted.{IsPermutation, IsNonDecreasing, IsStrictlyIncreasing}
 use Rattle.std.proofs.lemmas.Bool.{cases_eq, cond-true, cond-false, ne_eqb}
 use Rattle.std.proofs.lemmas.List.Sorted.{Contains-permutation, IsPermutation-sym}
 use Rattle.std.proofs.lemmas.Map.Keys.{IsDistinct-from_apart, IsDistinct-IsPermutation, IsStrictlyIncreasing-from_distinct}
 use Rattle.lists.specs.Distinct.{AreDistinct}
-use Rattle.lists.proofs.Distinct.{distinct-append_left, distinct-append_right, distinct_apart, distinct_joined, places_apart}
+use Rattle.lists.proofs.Distinct.{distinct-append_right, distinct_apart, distinct_joined, places_apart}
 use Rattle.lists.proofs.Entries.{Contains-head, Contains-later, Contains-cases, map-Contains, Contains-map, none_in_empty}
 use Rattle.lists.proofs.Flats.{flat_has, flat_of}
 use Rattle.fee_rate.specs.declared.rates.Sum.{Sum}
@@ -16,12 +16,12 @@ use Rattle.fee_rate.specs.Rates.{sum_from}
 use Rattle.graphs.specs.Certificates.{Txs, rate_in}
 use Rattle.graphs.specs.Closures.{is_member, is_ancestor, rate_of}
 use Rattle.graphs.specs.declared.names.Level.TheVariants.{Top}
-use Rattle.graphs.specs.Graphs.{Graph, Lists}
+use Rattle.graphs.specs.Graphs.{Graph}
 use Rattle.graph_model.specs.Limits.{Bounds, AreOver, bounds_of}
 use Rattle.graph_model.specs.Oversize as model
 use Rattle.graph_model.specs.States.{State, level_of}
 use Rattle.graph_model.specs.States as states
-use Rattle.graph_model.specs.Trims.{IsTrimmed, kept_of}
+use Rattle.graph_model.specs.Trims.{IsTrimmed}
 use Rattle.graph_model.proofs.TrimLemmas.{rising_once}
 use Rattle.graph_model.proofs.TrimmedLemmas.{trimmed_some}
 use Rattle.links.specs.Kept.{names_of}
@@ -41,7 +41,7 @@ use Rattle.trim.proofs.TrimLaw.{goes_by_components}
 -- ---- lists
 
 -- numbers that stand once, and don't fall in another order, rise in that order
-rising_sorted : (xs ys : List ℕ) → AreDistinct xs → IsPermutation xs ys → IsNonDecreasing ys → Rattle.std.specs.List.Sorted.IsStrictlyIncreasing ys
+rising_sorted : (xs ys : List ℕ) → AreDistinct xs → IsPermutation xs ys → IsNonDecreasing ys → IsStrictlyIncreasing ys
 rising_sorted xs ys once moved rising =
     let apart : IsDistinct nat_eq xs =
     IsDistinct-from_apart nat_eq xs (λ i j d before below. ne_eqb _ _ (places_apart xs i j d once before below)) in
@@ -167,16 +167,16 @@ module _ (kept : Kept) (state : State) (stands : StandsFor kept state) where
     gathered_exact : (id : ℕ) → Contains ids id ↔ Contains all id
     gathered_exact id = (
       λ here.
-        let found = flat_of (λ (p : Links × List ℕ). p.1) trimmed.parts id (subst (λ xs. Contains xs id) trimmed.together here) in
-        ((part_alike found.0 found.1 id).0 found.2).1,
+          let found = flat_of (λ (p : Links × List ℕ). p.1) trimmed.parts id (subst (λ xs. Contains xs id) trimmed.together here) in
+          ((part_alike found.0 found.1 id).0 found.2).1,
       λ here.
-        let large = goes_by_components.over state.plain.limits rate graph all (of_top kept state stands).valid of_all id here in
-        let level = over_here large.0 large.1 large.2 in
-        let found = are.all large.0 level.0 level.1 in
-        let part = map-Contains (λ (p : Links × List ℕ). p.0) trimmed.parts found.0 (subst (λ ls. Contains ls found.0) (sym trimmed.links) found.1) in
-        let named : Contains (part_names part.0) id = subst (λ (l : Links). Contains (names_of l.txs) id) (sym part.2) (found.2 id large.3) in
-        subst (λ xs. Contains xs id) (sym trimmed.together)
-        (flat_has (λ (p : Links × List ℕ). p.1) trimmed.parts part.0 id part.1 ((part_alike part.0 part.1 id).1 (named, here))),
+          let large = goes_by_components.over state.plain.limits rate graph all (of_top kept state stands).valid of_all id here in
+          let level = over_here large.0 large.1 large.2 in
+          let found = are.all large.0 level.0 level.1 in
+          let part = map-Contains (λ (p : Links × List ℕ). p.0) trimmed.parts found.0 (subst (λ ls. Contains ls found.0) (sym trimmed.links) found.1) in
+          let named : Contains (part_names part.0) id = subst (λ (l : Links). Contains (names_of l.txs) id) (sym part.2) (found.2 id large.3) in
+          subst (λ xs. Contains xs id) (sym trimmed.together)
+          (flat_has (λ (p : Links × List ℕ). p.1) trimmed.parts part.0 id part.1 ((part_alike part.0 part.1 id).1 (named, here))),
     )
 
     sorted_trimmed : (sorted : List ℕ) → IsPermutation ids sorted → IsNonDecreasing sorted → IsTrimmed state.plain.limits rate graph sorted

@@ -1,5 +1,5 @@
 -- Trimming goes by components.
-use Rattle.std.proofs.Common.{◌≡◌, ◌↔◌, ◌⊎◌, ℕ, ◌<◌, length, Bool, true, List, inl, inr, refl, sym, subst, arith}
+use Rattle.std.proofs.Common.{◌≡◌, ◌↔◌, ◌⊎◌, ℕ, length, Bool, true, List, inl, inr, refl, sym, subst, arith}
 use Rattle.std.specs.Prelude.{Contains, filter, sum_by}
 use Rattle.std.proofs.lemmas.Bool.{cases_lt}
 use Rattle.lists.specs.Distinct.{AreDistinct}
@@ -11,7 +11,7 @@ use Rattle.graphs.specs.Graphs.{Graph, IsGraph, AreConnected}
 use Rattle.graphs.proofs.WalkLemmas.{AreConnected-sym, AreConnected-trans}
 use Rattle.graph_model.specs.Limits.{Bounds, AreOver}
 use Rattle.graph_model.specs.Oversize.{AreOfOneComponent}
-use Rattle.graph_model.specs.Trims.{kept_of, IsCandidate, StaysWithin, AreMarked, IsTrimmed}
+use Rattle.graph_model.specs.Trims.{kept_of, StaysWithin, AreMarked, IsTrimmed}
 use Rattle.graph_model.proofs.LevelLemmas.{IsTold, both_told, connected_told, is_first, first_holds, holds_first}
 use Rattle.graph_model.proofs.OverLemmas.{graph_itself}
 use Rattle.graph_model.proofs.TrimLemmas.{Marks, looked_at, looked_entry, entry_kept, along_trail, connected_more, marked_once, rising_once, some_first}
@@ -29,13 +29,13 @@ trimmed_alike bounds rate own whole part all some is_whole is_part of rates trim
     marked_once bounds own part part other.marked (own_marks whole part is_whole is_part of trimmed.marked) (graph_itself part) other.marks
     (part_marks whole part is_whole is_part of bounds rate own rates trimmed.marked trimmed.marks) in (
       λ here.
-        let is = (other.rest.exact id).0 here in (
-          is.0,
-          (trimmed.rest.exact id).1 (
-            of.names id is.0,
-            λ kept. is.1 (subst (λ zs. Contains (kept_of zs) id) (sym alike) (kept_down whole part is_whole is_part of trimmed.marked id is.0 kept)),
+          let is = (other.rest.exact id).0 here in (
+            is.0,
+            (trimmed.rest.exact id).1 (
+              of.names id is.0,
+              λ kept. is.1 (subst (λ zs. Contains (kept_of zs) id) (sym alike) (kept_down whole part is_whole is_part of trimmed.marked id is.0 kept)),
+            ),
           ),
-        ),
       λ is. (other.rest.exact id).1 (
         is.0,
         λ kept. ((trimmed.rest.exact id).0 is.1).1

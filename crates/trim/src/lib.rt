@@ -1,12 +1,16 @@
 //! Trimming: an oversized top level is cut back to its limits.
 //!
+//! # How it works
+//!
+//! Trimming goes by components ([`trim_goes_by_components`]). So [`trim`] asks the graph for the components of the top level that are over the
+//! limits, and `trimming` for the names that go of each. These together, in rising order, are what trimming drops of the whole level, and the
+//! graph drops them in one call. Nothing is looked at of the components within the limits.
+//!
 //! Fees are in satoshis and sizes in virtual bytes.
 #![tactic(auto)]
 
 mod dropping;
 mod laws;
-
-pub use laws::trim_goes_by_components;
 
 ghost use Rattle.std.specs.Prelude.{◌≡◌, ℕ, List, IfErr};
 ghost use Rattle.graphs.specs.declared.names.Level.TheVariants.{Top};
@@ -21,6 +25,7 @@ ghost use Rattle.trim.specs.Trimmed.{TrimDrops};
 
 use crate::dropping::picked;
 use graph_model::{Picked, Refusal};
+pub use laws::trim_goes_by_components;
 use std::alloc::Global;
 use step_count::{Ledger, Steps};
 use tx_graph::TxGraph;

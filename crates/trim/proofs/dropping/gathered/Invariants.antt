@@ -1,5 +1,5 @@
 -- the components that are still to come, and what is dropped of those before them
-use Rattle.std.proofs.Common.{◌≡◌, List, ◌++◌, map, Contains}
+use Rattle.std.proofs.Common.{◌≡◌, ◌++◌, map, Contains}
 use Rattle.std.specs.Borrow.{Bor}
 use Rattle.graphs.specs.declared.names.Level.TheVariants.{Top}
 use Rattle.graph_model.specs.Limits.{bounds_of}

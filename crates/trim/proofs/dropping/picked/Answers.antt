@@ -9,7 +9,7 @@ use Rattle.graphs.specs.declared.names.Level.TheVariants.{Top}
 use Rattle.graphs.specs.Rates.{sums}
 use Rattle.levels.specs.Levels.{level_at}
 use Rattle.tx_graph.specs.Dropped.{MayGo}
-use Rattle.trim.specs.Trimmed.{IsDropped, TrimDrops}
+use Rattle.trim.specs.Trimmed.{IsDropped}
 use Rattle.trim.proofs.Standing.{MayBeSummed, may_be_summed, dropped_one, dropped_told, limits_in_range, trimmed_may_go}
 use Rattle.trim.proofs.dropping.picked.Goals as goal
 
