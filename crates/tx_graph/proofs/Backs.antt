@@ -11,7 +11,7 @@ use Rattle.graphs.specs.declared.names.Level.{Level}
 use Rattle.graphs.specs.declared.names.Level.TheVariants.{Main, Top}
 use Rattle.graphs.specs.Certificates.{Txs}
 use Rattle.graphs.specs.Closures.{is_member, rate_of}
-use Rattle.graphs.specs.Graphs.{Graph}
+use Rattle.graphs.specs.Graphs.{Lists}
 use Rattle.graph_model.specs.declared.names.Refusal.{Refusal}
 use Rattle.graph_model.specs.declared.names.Refusal.TheVariants.{Back, Full, Staging}
 use Rattle.graph_model.specs.Limits.{Bounds, bounds_of}
@@ -27,6 +27,8 @@ use Rattle.levels.specs.Restores.{BringsNoneOver, ComesOf, IsFirstOver, PutsTxs}
 use Rattle.levels.specs.Restores as levels
 use Rattle.tx_graph.specs.Additions.{CountsLive}
 use Rattle.tx_graph.specs.Kept.{HasRates, IsGraphOf, IsStagingOf, Kept, Leads, StandsFor, StandsPlainly, entry_of}
+use Rattle.tx_graph.specs.Sound.{IsSound}
+use Rattle.tx_graph.proofs.Calls.{in_range}
 use Rattle.tx_graph.specs.Restored.{MayLackMemory, MayRestore, RestoreRefusalIs, RestoresSet}
 use Rattle.tx_graph.proofs.Counting.{live_count}
 use Rattle.tx_graph.proofs.Picked.{AreSameLevel, KeepsParts, picks_follow}
@@ -252,3 +254,20 @@ module _ (old : Kept) (txs : Txs) (pairs : List (ℕ × ℕ)) (may : MayRestore 
           record { plain = later; picks = picks.1 },
           (come state.plain stands.plain, picks.2),
         )
+
+-- ---- what the levels ask
+
+-- Transactions that none of the first refusals stops may come into main.
+pub may_come : (old : Kept) (txs : Txs) (pairs : List (ℕ × ℕ)) → IsSound old → MayRestore old txs pairs → is_some old.levels.staging ≡ false
+    → ((id : ℕ) → Contains (ids_of txs) id → IsLive old.levels id → ⊥) → (ids : List ℕ) → Lists (IsLive old.levels) ids
+    → length ids + length txs ≤ old.levels.limits.total → levels.MayRestore old.levels txs pairs
+may_come old txs pairs sound may alone gone ids lists room = record {
+  alone = none_of old.levels.staging alone;
+  once = may.once;
+  absent = gone;
+  in_range = λ id fee size here. let rate = may.in_range id fee size here in (rate.fee, (rate.some, rate.size));
+  parents = may.parents;
+  acyclic = may.acyclic;
+  few = (ids, lists, (let high = (in_range old sound).total_high in omega (arith, room, high)));
+  issued = may.issued;
+}

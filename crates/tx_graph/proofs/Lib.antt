@@ -25,3 +25,4 @@ mod Rooms
 mod Starts
 mod Returns
 mod Backs
+mod Asked

@@ -95,11 +95,12 @@ first_or_none P (y ∷ ys) told = elim (told y (Contains-head y ys)) [
 -- ---- tables
 
 -- a table with more transactions
-put_all : Table → Txs → Table
+pub put_all : Table → Txs → Table
 put_all table [] = table
 put_all table (tx ∷ txs) = finmap.insert (put_all table txs) tx.0 (record { fee = tx.1; size = tx.2 })
 
 put_other : (table : Table) (txs : Txs) (id : ℕ) → (Contains (ids_of txs) id → ⊥) → finmap.get (put_all table txs) id ≡ finmap.get table id
+unfolding put_all
 put_other table [] id out = refl
 put_other table (tx ∷ txs) id out =
     get-put_other (put_all table txs) tx.0 id (record { fee = tx.1; size = tx.2 })
@@ -108,6 +109,7 @@ put_other table (tx ∷ txs) id out =
 
 put_listed : (table : Table) (txs : Txs) → AreDistinct (ids_of txs) → (id : ℕ) (fee : ℤ) (size : ℕ) → Contains txs (id, fee, size)
     → finmap.get (put_all table txs) id ≡ Some (record { fee = fee; size = size })
+unfolding put_all
 put_listed table [] once id fee size here = absurd (none_in_empty (id, fee, size) here)
 put_listed table (tx ∷ txs) once id fee size here = elim (Contains-cases tx (id, fee, size) txs here) [
   | inl same ↦
@@ -130,19 +132,19 @@ told_same bounds f h xs why large told = elim told [
 
 module _ (state : PlainState) (valid : IsValid state) (txs : Txs) (pairs : List (ℕ × ℕ)) (can : CanCome state txs pairs)
     (once : AreDistinct (ids_of txs)) where
-  abbrev ids : List ℕ
+  abbrev pub ids : List ℕ
   ids = ids_of txs
 
   apart : (id : ℕ) → Contains ids id → Contains state.main.names id → ⊥
   apart id here main = can.gone id here ((valid.live id).1 (inl main))
 
-  abbrev names : List ℕ
+  abbrev pub names : List ℕ
   names = state.main.names ++ ids
 
-  more : (ys : List (ℕ × ℕ)) × AreDistinct ys × ((pair : ℕ × ℕ) → Contains ys pair ↔ (Contains pairs pair × Contains names pair.1))
+  pub more : (ys : List (ℕ × ℕ)) × AreDistinct ys × ((pair : ℕ × ℕ) → Contains ys pair ↔ (Contains pairs pair × Contains names pair.1))
   more = select cases_pair (λ pair. Contains names pair.1) (λ pair. told_number names pair.1) pairs
 
-  abbrev graph : Graph
+  abbrev pub graph : Graph
   graph = record { names = names; pairs = state.main.pairs ++ more.0 }
 
   abbrev pub after : PlainState
