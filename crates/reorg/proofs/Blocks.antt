@@ -3,7 +3,7 @@ use Rattle.std.proofs.Common.{◌≡◌, ◌≢◌, ◌↔◌, ◌≤◌, ◌+�
 use Rattle.std.specs.Prelude.{Contains, take}
 use Rattle.std.specs.FinMap as finmap
 use Rattle.lists.specs.Distinct.{AreDistinct}
-use Rattle.lists.proofs.Entries.{Contains-head, Contains-later, Contains-cases, map_along}
+use Rattle.lists.proofs.Entries.{Contains-head, Contains-later, Contains-cases, none_in_empty, map_along}
 use Rattle.fee_rate.specs.declared.rates.FeeRate.{FeeRate}
 use Rattle.graphs.specs.declared.names.Level.TheVariants.{Main}
 use Rattle.graphs.specs.Closures.{Closure, is_member, is_ancestor, rate_of}
@@ -36,19 +36,24 @@ same_front (suc n) [] (y ∷ ys) none = absurd none
 same_front (suc n) (x ∷ xs) [] none = absurd none
 
 pub in_front : {A : Type 0} (n : ℕ) (xs : List A) (x : A) → Contains (take n xs) x → Contains xs x
-in_front zero xs x here = absurd here
+in_front zero xs x here = absurd (none_in_empty x here)
 in_front (suc n) [] x here = here
 in_front (suc n) (y ∷ ys) x here = elim (Contains-cases y x (take n ys) here) [
   | inl same ↦ subst (Contains (y ∷ ys)) same (Contains-head y ys)
   | inr later ↦ Contains-later y x ys (in_front n ys x later)
 ]
 
+pub front_short : {A : Type 0} (n : ℕ) (xs : List A) → length (take n xs) ≤ n
+front_short zero xs = omega arith
+front_short (suc n) [] = omega arith
+front_short (suc n) (x ∷ xs) = let rest : length (take n xs) ≤ n = front_short n xs in omega arith
+
 -- ---- names that may be mined
 
 -- Names that nothing refuses to mine are names of main.
-pub may_mine : (kept : graphs.Kept) (ids : List ℕ) → IsSound kept → Meets kept (Mine ids) None → AreNamesOf kept.levels.main.graph ids
-may_mine kept ids sound row id here =
-    let some = sound.stands in
+pub may_mine : (kept : graphs.Kept) (ids : List ℕ) → (state : State) × graphs.StandsFor kept state → Meets kept (Mine ids) None
+    → AreNamesOf kept.levels.main.graph ids
+may_mine kept ids some row id here =
     let can = can_mine some.0.plain ids (row some.0 some.1) in
     (named kept some.0.plain some.1.plain Main id).0 (can.inside id here)
 
@@ -73,8 +78,7 @@ module _ (kept : graphs.Kept) (ids : List ℕ) (block : MinedBlock) (of : IsBloc
       λ pair. let is = (of.pairs m d).0 pair in (is.0, (below m d is.0).1 (inr is.1.0), is.1.1),
       λ is. (of.pairs m d).1 (
         is.0,
-        elim ((below m d is.0).0 is.1) [ inl same ↦ absurd (is.2 same) | inr up ↦ up ],
-        is.2,
+        (elim ((below m d is.0).0 is.1) [ inl same ↦ absurd (is.2 same) | inr up ↦ up ], is.2),
       ),
     );
   }

@@ -49,9 +49,9 @@ module _ (kept : Kept) (id : ℕ) (some : (state : State) × StandsFor kept stat
   is_below d ids (listed, lists, same) = (
     λ here. elim ((told kept.levels.main state.plain.main some.1.plain.main id d).0
         ((lists.exact d).0 (subst (λ ns. Contains ns d) (one ids listed same) here))) [
-      | inl itself ↦ subst (λ n. is_ancestor kept.levels.main.graph id n ≡ true) itself ((order_kept kept.levels.main state.plain.main some.1.plain.main).reflexive id member)
-      | inr up ↦ up
-    ],
+          | inl itself ↦ subst (λ n. is_ancestor kept.levels.main.graph id n ≡ true) itself ((order_kept kept.levels.main state.plain.main some.1.plain.main).reflexive id member)
+          | inr up ↦ up
+        ],
     λ up. subst (λ ns. Contains ns d) (sym (one ids listed same))
         ((lists.exact d).1 ((told kept.levels.main state.plain.main some.1.plain.main id d).1 (inr up))),
   )

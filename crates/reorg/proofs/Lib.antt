@@ -2,4 +2,6 @@ pub mod Lifted
 mod Blocks
 mod Descending
 mod Whole
+mod Mining
 mod Pairing
+mod Unmining

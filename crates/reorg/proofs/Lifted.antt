@@ -82,8 +82,7 @@ step_stays old new command reply leaves step = elim step [
 
 pub lifted : OtherCommandsKeepBlocks
 lifted old new command reply blocks leaves steps state stands =
-    let to = steps state stands.graph in
-    (
+    let to = steps state stands.graph in (
       to.0,
       record {
         graph = to.1;

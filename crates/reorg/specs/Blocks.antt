@@ -1,15 +1,19 @@
 -- The blocks that are kept, and what a block takes out of main.
-use Rattle.std.specs.Prelude.{◌≡◌, ◌≢◌, ◌↔◌, ℕ, ℤ, ◌≤◌, true, List, map, length, Contains, Ok, Err}
+use Rattle.std.specs.Prelude.{◌≡◌, ◌≢◌, ◌↔◌, ℕ, ℤ, ◌≤◌, true, List, map, length, Contains, ◌⊎◌, None, Some, Ok, Err}
 use Rattle.std.specs.declared.result.Result.{Result}
 use Rattle.graphs.specs.Certificates.{Txs}
 use Rattle.graphs.specs.Closures.{Closure, is_member, is_ancestor, rate_of}
 use Rattle.graphs.specs.Graphs.{IsAncestor}
 use Rattle.graph_model.specs.declared.limits.TheConstants.{MAX_BLOCKS}
 use Rattle.graph_model.specs.declared.names.Refusal.{Refusal}
+use Rattle.graph_model.specs.declared.names.Refusal.TheVariants.{Memory}
+use Rattle.graph_model.specs.Commands.{Mine}
 use Rattle.graph_model.specs.Replies.{Reply, Refused, Unmined}
 use Rattle.graph_model.specs.States.{MinedBlock}
 use Rattle.graph_model.specs.Validity.{IsKeptBlock}
 use Rattle.links.specs.Links.{Links, Has}
+use Rattle.tx_graph.specs.Kept.{Kept}
+use Rattle.tx_graph.specs.Restored.{Meets}
 
 -- At most as many blocks as are kept, and each of them can be put back.
 pub record AreKept (blocks : List MinedBlock) : Type 0 where
@@ -48,6 +52,14 @@ ArePairsOf graph = ArePairsBy (IsBelow graph)
 pub record IsBlockOf (graph : Closure) (ids : List ℕ) (block : MinedBlock) : Type 0 where
   pub txs : block.txs ≡ map (tx_of graph) ids
   pub pairs : ArePairsOf graph ids block.pairs
+
+-- It is the block of these names, which are names of main.
+abbrev pub CanMine : Kept → List ℕ → MinedBlock → Type 0
+CanMine kept ids block = AreNamesOf kept.levels.main.graph ids × IsBlockOf kept.levels.main.graph ids block
+
+-- To mine these names meets this refusal, or none and there is no memory.
+abbrev pub RefusesMine : Kept → List ℕ → Refusal → Type 0
+RefusesMine kept ids why = Meets kept (Mine ids) (Some why) ⊎ ((why ≡ Memory) × Meets kept (Mine ids) None)
 
 -- the reply where a block was taken back
 abbrev pub unmined_reply : Result (List ℕ) Refusal → Reply

@@ -30,11 +30,7 @@ impl Model for Block {
 
 impl Block {
     /// A block of these transactions and pairs. The names are those of the transactions.
-    pub(crate) fn new(
-        txs: Vec<(TxId, i64, u64)>,
-        pairs: Vec<(TxId, TxId)>,
-        ids: IdList,
-    ) -> Self
+    pub(crate) fn new(txs: Vec<(TxId, i64, u64)>, pairs: Vec<(TxId, TxId)>, ids: IdList) -> Self
         requires { ids ≡ ids_of txs.items }
         ensures { result ≡ record { txs = txs.items; pairs = pairs.items } }
     {

@@ -87,11 +87,7 @@ fn pairs_below(
 }
 
 /// Puts behind a list the pairs of a name with each other name that walks lead to from it.
-fn put_walked(
-    list: &mut Vec<(TxId, TxId)>,
-    links: &mut Links,
-    id: TxId,
-) -> Result<(), NoMemory>
+fn put_walked(list: &mut Vec<(TxId, TxId)>, links: &mut Links, id: TxId) -> Result<(), NoMemory>
     requires { Has links.old id }
     ensures same { links.new ≡ links.old }
     ensures adds { OnOk result (Adds (λ m d. (m ≡ id) × LeadsTo links.old.pairs m d) list.old.items list.new.items) }

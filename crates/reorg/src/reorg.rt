@@ -1,4 +1,4 @@
-ghost use Rattle.std.specs.Prelude.{◌≡◌, ◌≢◌, ℕ, ◌+◌, ◌-◌, ◌^◌, ◌<◌, ◌≤◌, [], ◌∷◌, length, take, is_ok, if◌then◌else◌, IfErr};
+ghost use Rattle.std.specs.Prelude.{◌≡◌, ◌≢◌, ℕ, ◌+◌, ◌-◌, ◌^◌, ◌<◌, ◌≤◌, [], ◌∷◌, length, take, is_ok, if◌then◌else◌, IfErr, OnOk, MatchResult};
 ghost use Rattle.std.specs.VecDeque.{deque_capacity, deque_len};
 ghost use Rattle.graph_model.specs.declared.limits.TheConstants.{MAX_BLOCKS};
 ghost use Rattle.graph_model.specs.declared.names.Refusal.TheVariants.{Memory};
@@ -8,7 +8,7 @@ ghost use Rattle.graph_model.specs.Replies.{Refused, change_reply};
 ghost use Rattle.levels.specs.Lefts.{DropsWithin};
 ghost use Rattle.levels.specs.Restores.{RestoresWithin};
 ghost use Rattle.levels.specs.Stays.{AllStay};
-ghost use Rattle.reorg.specs.Blocks.{HaveAtMost, unmined_reply};
+ghost use Rattle.reorg.specs.Blocks.{AreKept, CanMine, HaveAtMost, RefusesMine, unmined_reply};
 ghost use Rattle.reorg.specs.Kept.{MakesStep};
 
 use crate::block::Block;
@@ -107,17 +107,10 @@ impl Reorg {
         ensures refused { IfErr result (λ why. why ≢ Memory → steps.new ≡ steps.old) }
         ensures steps { DropsWithin graph.old.levels.limits ids.now graph.old.levels.main.graph steps.old steps.new }
     {
-        let _stands = graph.additions();
-        graph.minable(ids)?;
-        let Ok(block) = block_of(self.alloc, graph, ids) else {
-            return Err(Refusal::Memory);
-        };
-        if self.blocks.reserve(1).is_err() {
-            return Err(Refusal::Memory);
+        match prepared(self.alloc, &mut self.blocks, graph, ids) {
+            Ok(block) => mine_block(&mut self.blocks, graph, ids, block, steps),
+            Err(why) => Err(why),
         }
-        graph.mine(ids, steps)?;
-        put(&mut self.blocks, block);
-        Ok(())
     }
 
     /// Puts the transactions of the latest block back into a graph's main, with the fees and sizes that they had, and those of its pairs
@@ -156,8 +149,68 @@ impl Reorg {
         let Some(block) = self.blocks.front() else {
             return Err(refused_without(graph));
         };
-        graph.restore(block.txs(), block.pairs(), steps)?;
-        Ok(take_latest(&mut self.blocks))
+        match graph.restore(block.txs(), block.pairs(), steps) {
+            Ok(()) => Ok(take_latest(&mut self.blocks)),
+            Err(why) => Err(why),
+        }
+    }
+}
+
+/// The block of transactions that can be mined, and room for one block more. Nothing changes. Refuses what can't be mined, and else where there is
+/// no memory.
+fn prepared<const W: usize>(
+    alloc: Global,
+    blocks: &mut VecDeque<Block>,
+    graph: &mut TxGraph<W>,
+    ids: &[TxId],
+) -> Result<Block, Refusal>
+    requires { ids.now ≢ [] }
+    ensures block { MatchResult result (CanMine graph.old ids.now) (RefusesMine graph.old ids.now) }
+    ensures same { graph.new ≡ graph.old }
+    ensures blocks { blocks.new.items ≡ blocks.old.items }
+    ensures room { OnOk result (deque_len blocks.new < deque_capacity blocks.new) }
+{
+    let _stands = graph.additions();
+    if let Err(why) = graph.minable(ids) {
+        return Err(why);
+    }
+    if blocks.reserve(1).is_err() {
+        return Err(Refusal::Memory);
+    }
+    match block_of(alloc, graph, ids) {
+        Ok(block) => Ok(block),
+        Err(_) => Err(Refusal::Memory),
+    }
+}
+
+/// Mines the transactions of a block, and puts the block in front, where there is room for it.
+fn mine_block<L: Ledger, const W: usize>(
+    blocks: &mut VecDeque<Block>,
+    graph: &mut TxGraph<W>,
+    ids: &[TxId],
+    block: Block,
+    steps: &mut Steps<L>,
+) -> Result<(), Refusal>
+    requires some { ids.now ≢ [] }
+    requires block { CanMine graph.old ids.now block }
+    requires kept { AreKept blocks.old.items }
+    requires room { deque_len blocks.old < deque_capacity blocks.old }
+    ensures step { MakesStep (record { graph = graph.old; blocks = blocks.old.items })
+        (record { graph = graph.new; blocks = blocks.new.items }) (Mine ids.now) (change_reply result) }
+    ensures kept { AreKept blocks.new.items }
+    ensures sizes { (most : ℕ) → length ids.now ≤ most → HaveAtMost blocks.old.items most → HaveAtMost blocks.new.items most }
+    ensures stays { AllStay graph.old.levels graph.new.levels }
+    ensures additions { graph.new.levels.issued ≡ graph.old.levels.issued }
+    ensures refused { IfErr result (λ why. why ≢ Memory → steps.new ≡ steps.old) }
+    ensures steps { DropsWithin graph.old.levels.limits ids.now graph.old.levels.main.graph steps.old steps.new }
+{
+    let _stands = graph.additions();
+    match graph.mine(ids, steps) {
+        Ok(()) => {
+            put(blocks, block);
+            Ok(())
+        }
+        Err(why) => Err(why),
     }
 }
 

@@ -9,4 +9,4 @@ returns g c =
     c.loop-pair.invariant.list ∙ sym (append-nil ys) ∙ ap (λ (zs : List (ℕ × ℕ)). ys ++ zs) (sym c.in-None.ensures.steps.0) ∙ c.loop-pair.invariant.all
     ∙ c.into_iter-pair-iterator.ensures.into_iter_gives in
     λ names exact. subst (λ (ps : List (ℕ × ℕ)). IsClosureOf c.args.graph.now.levels.main.graph (record { names = names; pairs = ps })) (sym all)
-        (c.links-pair-items.ensures.closed names exact)
+    (c.links-pair-items.ensures.closed names exact)

@@ -31,5 +31,5 @@ returns-clause-adds c =
     let none : ys ++ coming c.loop-d.d-iterator ≡ ys = ap (λ (zs : List ℕ). ys ++ zs) c.in-None.ensures.steps.0 ∙ append-nil ys in
     others_all (LeadsTo c.args.links.now.pairs) c.args.id ys c.args.list.now.items c.loop-d.list.items
     (λ d. let exact = subst (λ (zs : List ℕ). Contains zs d ↔ IsAncestor c.args.links.now.pairs c.args.id d) none (c.loop-d.invariant.all d) in
-        (λ is. (exact.0 is.0, is.1), λ is. (exact.1 is.0, is.1)))
+    (λ is. (exact.0 is.0, is.1), λ is. (exact.1 is.0, is.1)))
     c.loop-d.invariant.adds
