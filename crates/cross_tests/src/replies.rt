@@ -136,7 +136,8 @@ impl Lists {
         if self.blocks.len() == 100 {
             self.blocks.remove(0);
         }
-        self.blocks.push(block)
+        self.blocks.push(block)?;
+        Ok(())
     }
 
     /// Puts the latest block back.
