@@ -86,8 +86,7 @@ returns-then-is_past-clause-steps g c =
 pub restore-requires : goal.restore-requires
 restore-requires g c =
     let old = kept_of (64 * g.row.W) c.self.inside.begun c.self.inside.levels in
-    let live = live_listed old.levels in
-    (
+    let live = live_listed old.levels in (
       levels_fit g.row.W assumption,
       may_come old c.args.names.now c.args.pairs.now c.self.invariant
           (subst (λ (k : Kept). MayRestore k c.args.names.now c.args.pairs.now) (sym c.self.view_is) c.requires)
