@@ -63,7 +63,7 @@ pub(crate) fn restore<const W: usize, L: Ledger>(
         × (rings.new.book.issued ≡ rings.old.book.issued + length txs.now)) }
     ensures row { MatchResult result
         (λ _. shelves.old.limits.defer ≡ false
-            → BringsNoneOver shelves.old.limits (graph_of (view_of Top shelves.old)) txs.now pairs.now)
+        → BringsNoneOver shelves.old.limits (graph_of (view_of Top shelves.old)) txs.now pairs.now)
         (λ why. why ≢ Memory → BringsOver shelves.old.limits (graph_of (view_of Top shelves.old)) txs.now pairs.now why) }
     ensures err { OnErr result ((shelves.new ≡ shelves.old) × (set.len rings.new.book.names ≡ set.len rings.old.book.names)
         × (rings.new.book.issued ≡ rings.old.book.issued)) }

@@ -5,7 +5,7 @@ use Rattle.std.specs.Result.{IsErrAnd}
 use Rattle.std.proofs.lemmas.Bool.{cases_lt}
 use Rattle.std.proofs.lemmas.List.{drop_more, map-append, take_all, take_more, take-append-drop}
 use Rattle.std.proofs.lemmas.List.Elements.{Contains-append_right, Contains-push_cases}
-use Rattle.lists.proofs.Entries.{Contains-head, map-Contains}
+use Rattle.lists.proofs.Entries.{Contains-head}
 use Rattle.graphs.specs.Certificates.{Txs}
 use Rattle.graph_model.specs.declared.names.Refusal.{Refusal}
 use Rattle.graph_model.specs.declared.names.Refusal.TheVariants.{Late, Range, Fee, Size, Taken, ClusterSize, Full, Unknown, Cycle, Count, Staging, Twice, Parent, Empty, NoStaging, Memory, Oversized, NoBlock, Back}
@@ -81,11 +81,20 @@ memory_or_not Oversized = inr (λ e. cc)
 memory_or_not NoBlock = inr (λ e. cc)
 memory_or_not (Back id) = inr (λ e. cc)
 
--- the names of transactions are of 64 bits
-pub small_names : (txs : Txs) → ((i : ℕ) (d : ℕ × ℤ × ℕ) → i < length txs → (get_or txs i d).0 < 2 ^ 64) → (id : ℕ) → Contains (ids_of txs) id → id < 2 ^ 64
-small_names txs fits id here =
-    let (tx, listed, named) = map-Contains (λ (t : ℕ × ℤ × ℕ). t.0) txs id here in
-    subst (λ n. n < 2 ^ 64) (ap (λ (t : ℕ × ℤ × ℕ). t.0) listed.2 ∙ named) (fits listed.0 tx listed.1)
+-- the names of the first transactions are of 64 bits, one more
+pub small_next : (txs : Txs) (k : ℕ) (d : ℕ × ℤ × ℕ) → k < length txs → (get_or txs k d).0 < 2 ^ 64
+    → ((id : ℕ) → Contains (ids_of (take k txs)) id → id < 2 ^ 64) → (id : ℕ) → Contains (ids_of (take (k + 1) txs)) id → id < 2 ^ 64
+small_next txs k d low fits small id here =
+    elim (Contains-push_cases (ids_of (take k txs)) (get_or txs k d).0 id
+    (subst (λ (ns : List ℕ). Contains ns id)
+    (ap ids_of (take_more txs k d low) ∙ map-append (λ (t : ℕ × ℤ × ℕ). t.0) (take k txs) (get_or txs k d ∷ [])) here)) [
+      | inl before ↦ small id before
+      | inr same ↦ subst (λ n. n < 2 ^ 64) same fits
+    ]
+
+pub small_at_all : (txs : Txs) (k : ℕ) → length txs ≤ k → ((id : ℕ) → Contains (ids_of (take k txs)) id → id < 2 ^ 64) → (id : ℕ)
+    → Contains (ids_of txs) id → id < 2 ^ 64
+small_at_all txs k all small id here = small id (subst (λ (ts : Txs). Contains (ids_of ts) id) (sym (take_all k txs all)) here)
 
 -- what a test doesn't find past a number isn't
 pub is_room : (n total : ℕ) (test : Bool) → IsTrue test ↔ (total < n) → test ≡ false → n ≤ total

@@ -92,7 +92,7 @@ module _ (old : Kept) (txs : Txs) (pairs : List (ℕ × ℕ)) (may : MayRestore 
   ids = ids_of txs
 
   module _ (state : PlainState) (stands : StandsPlainly old state) where
-    can : CanCome state txs pairs
+    pub can : CanCome state txs pairs
     can = record {
       alone = none_of state.staging (staged old state stands ∙ alone);
       gone = not_live old txs pairs state stands alone gone;
@@ -104,7 +104,7 @@ module _ (old : Kept) (txs : Txs) (pairs : List (ℕ × ℕ)) (may : MayRestore 
       acyclic = may.acyclic;
     }
 
-    pub next : PlainState
+    abbrev pub next : PlainState
     next = after state stands.valid txs pairs can may.once
 
     come : Restores state txs pairs next

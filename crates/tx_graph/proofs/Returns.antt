@@ -38,28 +38,40 @@ select decide P told (x ∷ xs) =
     let rest = select decide P told xs in
     elim (told x) [
       | inl holds ↦ elim (told_in decide rest.0 x) [
-        | inl there ↦ (rest.0, rest.1, λ y. (
-          λ here. let was = (rest.2 y).0 here in (Contains-later x y xs was.0, was.1),
-          λ both. elim (Contains-cases x y xs both.0) [ inl same ↦ subst (Contains rest.0) same there | inr later ↦ (rest.2 y).1 (later, both.1) ],
-        ))
-        | inr new ↦ (x ∷ rest.0, (new, rest.1), λ y. (
-          λ here. elim (Contains-cases x y rest.0 here) [
-            | inl same ↦ (subst (Contains (x ∷ xs)) same (Contains-head x xs), subst P same holds)
-            | inr later ↦ let was = (rest.2 y).0 later in (Contains-later x y xs was.0, was.1)
-          ],
-          λ both. elim (Contains-cases x y xs both.0) [
-            | inl same ↦ subst (Contains (x ∷ rest.0)) same (Contains-head x rest.0)
-            | inr later ↦ Contains-later x y rest.0 ((rest.2 y).1 (later, both.1))
-          ],
-        ))
+        | inl there ↦ (
+          rest.0,
+          rest.1,
+          λ y. (
+            λ here. let was = (rest.2 y).0 here in (Contains-later x y xs was.0, was.1),
+            λ both. elim (Contains-cases x y xs both.0) [ inl same ↦ subst (Contains rest.0) same there | inr later ↦ (rest.2 y).1 (later, both.1) ],
+          ),
+        )
+        | inr new ↦ (
+          x ∷ rest.0,
+          (new, rest.1),
+          λ y. (
+            λ here. elim (Contains-cases x y rest.0 here) [
+              | inl same ↦ (subst (Contains (x ∷ xs)) same (Contains-head x xs), subst P same holds)
+              | inr later ↦ let was = (rest.2 y).0 later in (Contains-later x y xs was.0, was.1)
+            ],
+            λ both. elim (Contains-cases x y xs both.0) [
+              | inl same ↦ subst (Contains (x ∷ rest.0)) same (Contains-head x rest.0)
+              | inr later ↦ Contains-later x y rest.0 ((rest.2 y).1 (later, both.1))
+            ],
+          ),
+        )
       ]
-      | inr fails ↦ (rest.0, rest.1, λ y. (
-        λ here. let was = (rest.2 y).0 here in (Contains-later x y xs was.0, was.1),
-        λ both. elim (Contains-cases x y xs both.0) [
-          | inl same ↦ absurd (fails (subst P (sym same) both.1))
-          | inr later ↦ (rest.2 y).1 (later, both.1)
-        ],
-      ))
+      | inr fails ↦ (
+        rest.0,
+        rest.1,
+        λ y. (
+          λ here. let was = (rest.2 y).0 here in (Contains-later x y xs was.0, was.1),
+          λ both. elim (Contains-cases x y xs both.0) [
+            | inl same ↦ absurd (fails (subst P (sym same) both.1))
+            | inr later ↦ (rest.2 y).1 (later, both.1)
+          ],
+        ),
+      )
     ]
 
 -- the first entry with a property that can be told of each, or none has it
@@ -69,13 +81,16 @@ first_or_none P [] told = inr (λ x none. absurd (none_in_empty x none))
 first_or_none P (y ∷ ys) told = elim (told y (Contains-head y ys)) [
   | inl at_once ↦ inl (y, record { before = []; after = ys; cut = refl; has = at_once; earlier = no_front })
   | inr not_yet ↦ elim (first_or_none P ys (λ x here. told x (Contains-later y x ys here))) [
-    | inl found ↦ inl (found.0, record {
-      before = y ∷ found.1.before;
-      after = found.1.after;
-      cut = ap (λ (zs : List ℕ). y ∷ zs) found.1.cut;
-      has = found.1.has;
-      earlier = none_before y found.0 ys not_yet found.1;
-    })
+    | inl found ↦ inl (
+      found.0,
+      record {
+        before = y ∷ found.1.before;
+        after = found.1.after;
+        cut = ap (λ (zs : List ℕ). y ∷ zs) found.1.cut;
+        has = found.1.has;
+        earlier = none_before y found.0 ys not_yet found.1;
+      },
+    )
     | inr none ↦ inr (λ x here holds. elim (Contains-cases y x ys here) [
       | inl same ↦ not_yet (subst P (sym same) holds)
       | inr later ↦ none x later holds

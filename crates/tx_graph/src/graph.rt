@@ -259,7 +259,7 @@ impl<const W: usize> TxGraph<W> {
         self.levels.components(level)
     }
 
-    /// How many calls of [`add`](TxGraph::add) were accepted since the graph was made.
+    /// How many transactions [`add`](TxGraph::add) and [`restore`](TxGraph::restore) put into the graph since it was made.
     pub fn additions(&self) -> u64
         ensures additions { result ≡ self.now.levels.issued }
         ensures stands { (state : State) × StandsFor self.now state }

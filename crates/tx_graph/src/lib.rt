@@ -12,6 +12,8 @@
 //! - `dep`, `fee` and `remove` make the changed clusters anew: they copy the members, with a few word operations for each, solve each new cluster
 //!   once, and put the chunks that differ into the index of all chunks. The names of the smaller of two joined clusters, or of all but the
 //!   largest of those that are left, get another cluster number.
+//! - `restore` puts the transactions that come and the clusters that get a new parent together as names and links. Each component of these
+//!   becomes a cluster, solved once, and all of them come in by one change.
 //! - A cluster over the limits is kept as names and links. A change of it copies these and solves nothing, and what it leaves within the
 //!   limits is solved once. A level knows without a search whether it is oversized, and `over` looks at the clusters over the limits alone.
 //! - While a staging is open, a cluster that main keeps isn't changed. Another takes its place in staging, under a number of its own.

@@ -1,5 +1,5 @@
 //! Transactions that come back into main.
-ghost use Rattle.std.specs.Prelude.{◌≡◌, ◌↔◌, ℕ, ◌+◌, ◌<◌, None, Option, length, is_ok, if◌then◌else◌, IfOk, IsTrue, OnErr, MatchResult};
+ghost use Rattle.std.specs.Prelude.{◌≡◌, ◌↔◌, ℕ, ◌+◌, ◌^◌, ◌<◌, None, Option, Contains, length, is_ok, if◌then◌else◌, IfOk, IsTrue, OnErr, MatchResult};
 ghost use Rattle.graph_model.specs.declared.names.Refusal.{Refusal as refusals};
 ghost use Rattle.graph_model.specs.Changes.{ids_of};
 ghost use Rattle.graph_model.specs.States.{State};
@@ -69,7 +69,8 @@ impl<const W: usize> TxGraph<W> {
 
 /// The first of some transactions that is in main or in staging.
 fn first_live<const W: usize>(levels: &Levels<W>, txs: &[(TxId, i64, u64)]) -> Option<TxId>
-    ensures { FindsFirst (IsLive levels.now) (ids_of txs.now) result }
+    ensures first { FindsFirst (IsLive levels.now) (ids_of txs.now) result }
+    ensures small { result ≡ None → (id : ℕ) → Contains (ids_of txs.now) id → id < 2 ^ 64 }
 {
     for tx in txs {
         if is_live(levels, tx.0) {

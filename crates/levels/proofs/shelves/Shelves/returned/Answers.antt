@@ -23,8 +23,11 @@ all_of-requires g c =
       (
         record_fits g.row.W c.requires.order.narrow,
         (
-          (c.requires.order.wide, omega (arith, c.requires.order.narrow),
-              subst (λ (l : Limits). l.count ≤ 64 * g.row.W) (sym (ap (λ (s : Shelf). s.limits) c.self.view_is)) c.requires.order.in_range.count_high),
+          (
+            c.requires.order.wide,
+            omega (arith, c.requires.order.narrow),
+            subst (λ (l : Limits). l.count ≤ 64 * g.row.W) (sym (ap (λ (s : Shelf). s.limits) c.self.view_is)) c.requires.order.in_range.count_high,
+          ),
           all_few g.row.W c.args.self.now c.requires.order c.args.txs.now c.args.pairs.now c.requires.may c.in-Ok.found.outs.items found.met found.here
               found.are_here c.in-Ok.found.links.txs found.all_pairs found.puts,
         ),

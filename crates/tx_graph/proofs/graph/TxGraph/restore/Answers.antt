@@ -12,7 +12,7 @@ use Rattle.levels.specs.Restores.{RestoresWithin}
 use Rattle.levels.specs.Stays.{AllStay}
 use Rattle.tx_graph.specs.Kept.{Kept, Leads}
 use Rattle.tx_graph.specs.Restored.{IsAnsweredBy, MayRestore, RestoreRefusalIs, RestoresSet}
-use Rattle.tx_graph.proofs.Asked.{handed, memory_or_not, rows_from, small_names, is_room}
+use Rattle.tx_graph.proofs.Asked.{handed, is_room, memory_or_not, rows_from}
 use Rattle.tx_graph.proofs.Backs.{back_row, full_row, lacking_row, leads, may_come, none_row, over_row, staged_row}
 use Rattle.tx_graph.proofs.Calls.{kept_of, sound_led, sound_still}
 use Rattle.tx_graph.proofs.Counting.{counted, live_listed}
@@ -48,7 +48,7 @@ returns-in-Some-clause-row g c =
     c.args.self.now c.self.view_is
     (λ state stands. (
       Some (Back c.in-Some.id),
-      back_row old txs pairs state.plain stands.plain (sym c.is_staged.ensures ∙ c.if-is_staged.false) c.in-Some.id c.in-Some.ensures,
+      back_row old txs pairs state.plain stands.plain (sym c.is_staged.ensures ∙ c.if-is_staged.false) c.in-Some.id c.in-Some.ensures.first,
       inl refl,
     ))
 
@@ -71,7 +71,7 @@ returns-then-is_past-clause-row g c =
     c.self.view_is
     (λ state stands. (
       Some Full,
-      full_row old txs pairs state.plain stands.plain (sym c.is_staged.ensures ∙ c.if-is_staged.false) c.in_default.ensures (length live.0) counts
+      full_row old txs pairs state.plain stands.plain (sym c.is_staged.ensures ∙ c.if-is_staged.false) c.in_default.ensures.first (length live.0) counts
           past,
       inl refl,
     ))
@@ -86,12 +86,11 @@ returns-then-is_past-clause-steps g c =
 pub restore-requires : goal.restore-requires
 restore-requires g c =
     let old = kept_of (64 * g.row.W) c.self.inside.begun c.self.inside.levels in
-    let live = live_listed old.levels in
-    (
+    let live = live_listed old.levels in (
       levels_fit g.row.W assumption,
       may_come old c.args.names.now c.args.pairs.now c.self.invariant
           (subst (λ (k : Kept). MayRestore k c.args.names.now c.args.pairs.now) (sym c.self.view_is) c.requires)
-          (sym c.is_staged.ensures ∙ c.if-is_staged.false) c.in_default.ensures live.0 live.1
+          (sym c.is_staged.ensures ∙ c.if-is_staged.false) c.in_default.ensures.first live.0 live.1
           (is_room (length live.0 + length c.args.names.now) old.levels.limits.total _
           (c.is_past.ensures (length live.0) (counted old.levels live.0 live.1)) c.if-is_past.false),
     )
@@ -112,7 +111,7 @@ returns-in_err-restore-clause-row g c =
     let alone = sym c.is_staged.ensures ∙ c.if-is_staged.false in
     let room : length live.0 + length txs ≤ old.levels.limits.total =
     is_room (length live.0 + length txs) old.levels.limits.total _ (c.is_past.ensures (length live.0) counts) c.if-is_past.false in
-    let small = small_names txs (λ i d low. omega (arith, c.type_inv.names i)) in
+    let small = c.in_default.ensures.small refl in
     rows_from (λ state. MatchResult c.from_residual.result (λ _. RestoreRefusalIs state.plain txs pairs None)
     (λ e. (found : Option Refusal) × RestoreRefusalIs state.plain txs pairs found × IsAnsweredBy found e)) old c.args.self.now c.self.view_is
     (λ state stands.
@@ -120,11 +119,11 @@ returns-in_err-restore-clause-row g c =
     (λ e. (found : Option Refusal) × RestoreRefusalIs state.plain txs pairs found × IsAnsweredBy found e) c.from_residual.result why
     c.from_residual.ensures.1 (elim (memory_or_not why) [
       | inl memory ↦
-          let row = lacking_row old txs pairs may small alone c.in_default.ensures (length live.0) counts room state.plain stands.plain in
+          let row = lacking_row old txs pairs may small alone c.in_default.ensures.first (length live.0) counts room state.plain stands.plain in
           (row.0, row.1, inr (memory, row.2))
       | inr other ↦ (
         Some why,
-        over_row old txs pairs may small alone c.in_default.ensures (length live.0) counts room state.plain stands.plain why
+        over_row old txs pairs may small alone c.in_default.ensures.first (length live.0) counts room state.plain stands.plain why
             (c.in_err-restore.ensures.row other),
         inl refl,
       )
@@ -149,10 +148,10 @@ invariant_of-self-2 g c =
     let alone = sym c.is_staged.ensures ∙ c.if-is_staged.false in
     let room : length live.0 + length txs ≤ old.levels.limits.total =
     is_room (length live.0 + length txs) old.levels.limits.total _ (c.is_past.ensures (length live.0) counts) c.if-is_past.false in
-    let small = small_names txs (λ i d low. omega (arith, c.type_inv.names i)) in
+    let small = c.in_default.ensures.small refl in
     let done = c.in_ok-restore.ensures in
     sound_led old (kept_of (64 * g.row.W) true c.restore.new.self) (RestoresSet txs pairs) c.self.invariant c.restore.ensures.kept.0
-    (leads old txs pairs may small alone c.in_default.ensures (length live.0) counts room (kept_of (64 * g.row.W) true c.restore.new.self)
+    (leads old txs pairs may small alone c.in_default.ensures.first (length live.0) counts room (kept_of (64 * g.row.W) true c.restore.new.self)
     (ap (λ (l : Levels). l.limits) done.restored.1) refl refl (ap (λ (l : Levels). l.staging) done.restored.1) done.restored.0 done.row
     c.restore.ensures.kept.0)
 
@@ -167,10 +166,10 @@ returns-clause-restores g c =
     let alone = sym c.is_staged.ensures ∙ c.if-is_staged.false in
     let room : length live.0 + length txs ≤ old.levels.limits.total =
     is_room (length live.0 + length txs) old.levels.limits.total _ (c.is_past.ensures (length live.0) counts) c.if-is_past.false in
-    let small = small_names txs (λ i d low. omega (arith, c.type_inv.names i)) in
+    let small = c.in_default.ensures.small refl in
     let done = c.in_ok-restore.ensures in
     subst (λ (k : Kept). Leads k (kept_of (64 * g.row.W) true c.restore.new.self) (RestoresSet txs pairs)) c.self.view_is
-    (leads old txs pairs may small alone c.in_default.ensures (length live.0) counts room (kept_of (64 * g.row.W) true c.restore.new.self)
+    (leads old txs pairs may small alone c.in_default.ensures.first (length live.0) counts room (kept_of (64 * g.row.W) true c.restore.new.self)
     (ap (λ (l : Levels). l.limits) done.restored.1) refl refl (ap (λ (l : Levels). l.staging) done.restored.1) done.restored.0 done.row
     c.restore.ensures.kept.0)
 
@@ -185,9 +184,9 @@ returns-clause-row g c =
     let alone = sym c.is_staged.ensures ∙ c.if-is_staged.false in
     let room : length live.0 + length txs ≤ old.levels.limits.total =
     is_room (length live.0 + length txs) old.levels.limits.total _ (c.is_past.ensures (length live.0) counts) c.if-is_past.false in
-    let small = small_names txs (λ i d low. omega (arith, c.type_inv.names i)) in
+    let small = c.in_default.ensures.small refl in
     rows_from (λ state. RestoreRefusalIs state.plain txs pairs None) old c.args.self.now c.self.view_is
-    (λ state stands. none_row old txs pairs may small alone c.in_default.ensures (length live.0) counts room state.plain stands.plain
+    (λ state stands. none_row old txs pairs may small alone c.in_default.ensures.first (length live.0) counts room state.plain stands.plain
     c.in_ok-restore.ensures.row)
 
 pub returns-clause-stays : goal.returns-clause-stays
