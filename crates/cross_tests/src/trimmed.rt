@@ -28,12 +28,7 @@ fn is_candidate(pairs: &[(TxId, TxId)], kept: &[TxId], seen: &[TxId], id: TxId) 
 }
 
 /// The candidate that is looked at first.
-fn first_candidate(
-    txs: &[Tx],
-    pairs: &[(TxId, TxId)],
-    kept: &[TxId],
-    seen: &[TxId],
-) -> Option<Tx> {
+fn first_candidate(txs: &[Tx], pairs: &[(TxId, TxId)], kept: &[TxId], seen: &[TxId]) -> Option<Tx> {
     let mut first: Option<Tx> = None;
     for tx in txs {
         if !is_candidate(pairs, kept, seen, tx.id) {

@@ -86,7 +86,10 @@ impl Answer {
                 told(write_picked(sink, "trimmed", picked), Outcome::Accepted)
             }
             Answer::Unmined(ids) => {
-                told(write_ids(sink, "unmined", None, ids.as_slice()), Outcome::Accepted)
+                told(
+                    write_ids(sink, "unmined", None, ids.as_slice()),
+                    Outcome::Accepted,
+                )
             }
             Answer::Reads(reading) => graph.read(*reading, sink),
         }

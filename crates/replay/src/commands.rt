@@ -44,12 +44,7 @@ pub(crate) fn answer<const W: usize>(
 }
 
 /// The answer to a line of these bytes.
-fn read<const W: usize>(
-    alloc: Global,
-    pool: &mut Pool<W>,
-    ids: &mut IdBuf,
-    bytes: &[u8],
-) -> Answer
+fn read<const W: usize>(alloc: Global, pool: &mut Pool<W>, ids: &mut IdBuf, bytes: &[u8]) -> Answer
     requires few { pool.old.graph.levels.issued + most_raised ≤ 2 ^ 64 - 1 }
     requires room { HasRoom W ids.old }
     ensures line { MayTell pool.new result ids.new.ids (Answers pool.old pool.new bytes.now) }

@@ -17,10 +17,10 @@
 //! The work is near linear in transactions and pairs, and nothing is recursive.
 #![tactic(auto)]
 
+mod buckets;
 mod counts;
 mod cut;
 mod dropped;
-mod lists;
 mod net;
 mod order;
 mod room;

@@ -7,7 +7,7 @@ ghost use Rattle.links.specs.Places.{ArePlaces, AreSteps, Finds, FindsEnds};
 ghost use Rattle.links.specs.Ways.{AreWithin};
 ghost use Rattle.trimming.specs.Nets.{list_at, IsNetOf};
 
-use crate::lists::{empty_lists, put};
+use crate::buckets::{empty_lists, put};
 use crate::order::sorted;
 use graphs::TxId;
 use outside::NoMemory;

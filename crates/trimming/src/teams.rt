@@ -7,7 +7,7 @@ ghost use Rattle.trimming.specs.Ties.{AreTied};
 ghost use Rattle.trimming.specs.Rooms.{IsReady, IsFinding};
 ghost use Rattle.trimming.specs.Teams.{AreSized, AreTeams, AreGathered, AreWhole, HasJoined, IsKept};
 
-use crate::lists::empty_lists;
+use crate::buckets::empty_lists;
 use crate::net::Net;
 use crate::room::{Room, reach, reach_all, unmark};
 use graph_model::Limits;

@@ -4,7 +4,7 @@ use Rattle.std.specs.declared.alloc.Global.{Global}
 use Rattle.std.proofs.lemmas.List.{length_push}
 use Rattle.trimming.specs.Nets.{list_at}
 use Rattle.trimming.proofs.Listing.{empty_more}
-use Rattle.trimming.proofs.lists.empty_lists.Goals as goal
+use Rattle.trimming.proofs.buckets.empty_lists.Goals as goal
 
 pub loop-preserved : goal.loop-preserved
 loop-preserved c =

@@ -1,7 +1,7 @@
 use Rattle.std.proofs.Common.{◌≡◌, ℕ, length, ◌≤◌}
 use Rattle.std.specs.Prelude.{Contains, vec_capacity}
 use Rattle.trimming.specs.Nets.{list_at}
-use Rattle.trimming.proofs.lists.empty_lists.Given as goal
+use Rattle.trimming.proofs.buckets.empty_lists.Given as goal
 
 abbrev pub invariant-loop : goal.invariant-loop
 invariant-loop l = record {
