@@ -5,3 +5,4 @@ mod Whole
 mod Mining
 mod Pairing
 mod Unmining
+mod Unions

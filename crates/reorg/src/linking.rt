@@ -63,9 +63,11 @@ fn pairs_in<const W: usize>(
         → ((id : ℕ) → Contains names id ↔ (is_member graph.now.levels.main.graph id ≡ true))
         → IsClosureOf graph.now.levels.main.graph (record { names = names; pairs = list.items })) }
 {
+    let _stands = graph.additions();
+    let mut txs = Vec::new(alloc);
     let mut list = Vec::new(alloc);
-    for pair in graph.links(Level::Main) {
-        list.push(pair)?;
+    for record in graph.components(Level::Main) {
+        record.put_behind(alloc, &mut txs, &mut list)?;
     }
     Ok(list)
 }

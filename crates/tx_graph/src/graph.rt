@@ -252,9 +252,10 @@ impl<const W: usize> TxGraph<W> {
 
     /// The components of a level, each once, in no order. One that is within the limits of a cluster is lent with its order, of which
     /// [`Component::covers`] tells the parents of a transaction with no third one between; one that is over them is lent with its dependencies
-    /// ([`Record::links`](record::Record::links)). Takes no memory. It costs the clusters of both levels.
+    /// ([`Record::links`](record::Record::links)). Sets of names have at most two words. Takes no memory. It costs the clusters of both levels.
     pub fn components(&self, level: Level) -> Components<'_, W>
-        ensures { AreItsClusters (level_at self.now.levels level).graph result }
+        ensures components { AreItsClusters (level_at self.now.levels level).graph result }
+        ensures narrow { W ≤ 2 }
     {
         self.levels.components(level)
     }

@@ -1,4 +1,4 @@
-use Rattle.std.proofs.Common.{rules, ◌≡◌, ◌+◌, ◌*◌, ◌≤◌, ℕ, length, get_or, List, [], take, sym, ap, ◌∙◌, subst, arith}
+use Rattle.std.proofs.Common.{lit<, ◌≡◌, ◌+◌, ◌*◌, ◌≤◌, ℕ, length, get_or, List, [], take, sym, ap, ◌∙◌, subst, arith}
 use Rattle.std.proofs.lemmas.List.{take_all}
 use Rattle.std.proofs.lemmas.List.Elements.{Contains-get_or}
 use Rattle.reorg.specs.Blocks.{ArePairsBy, IsBelow}
@@ -15,7 +15,7 @@ loop-id-init g c = record {
 pub put_below-requires : goal.put_below-requires
 put_below-requires g c =
     let ids = c.args.ids.now in let k = c.loop-id.id-index in let room = c.loop-id.invariant.room in
-    (search rules, (c.requires.names (get_or ids k 0) (Contains-get_or ids k 0 c.loop-id-test.true), (c.requires.within, omega (arith, room))))
+    (lit< tt, (c.requires.names (get_or ids k 0) (Contains-get_or ids k 0 c.loop-id-test.true), (c.requires.within, omega (arith, room))))
 
 pub loop-id-preserved : goal.loop-id-preserved
 loop-id-preserved g c =

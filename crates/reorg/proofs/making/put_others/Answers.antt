@@ -1,4 +1,4 @@
-use Rattle.std.proofs.Common.{◌≡◌, ◌+◌, ℕ, List, get_or, take, ◌≢◌, subst, arith}
+use Rattle.std.proofs.Common.{◌+◌, ℕ, List, get_or, take, subst, arith}
 use Rattle.std.proofs.lemmas.List.{take_all}
 use Rattle.links.specs.Leaving.{Adds}
 use Rattle.reorg.proofs.Pairing.{Others, longer, others_more}

@@ -1,4 +1,4 @@
-use Rattle.std.proofs.Common.{rules, ◌≡◌, ◌+◌, ◌-◌, ◌^◌, ◌≤◌, ◌<◌, ℕ, List, [], ◌∷◌, length, is_some, sym, ap, ◌∙◌, subst, subst₂, true≢false, Option, None, arith}
+use Rattle.std.proofs.Common.{lit<, ◌≡◌, ◌+◌, ◌-◌, ◌^◌, ◌≤◌, ◌<◌, ℕ, List, [], ◌∷◌, length, is_some, sym, ap, ◌∙◌, subst, subst₂, true≢false, Option, None, arith}
 use Rattle.graphs.specs.Certificates.{Txs}
 use Rattle.graph_model.specs.declared.names.Refusal.{Refusal}
 use Rattle.graph_model.specs.Changes.{ids_of}
@@ -27,7 +27,7 @@ restore-requires g c =
     let low = c.front.ensures.variant.0 (ap is_some c.in-Some.is) in
     let is : Begins items block = begins items block (omega (arith, long, low)) c.in-Some.ensures.lookup in
     let few = subst (λ (bs : List MinedBlock). c.args.graph.now.levels.issued + length (latest_ids bs) ≤ 2 ^ 64 - 1) (sym c.self.view_is ∙ is.at) c.requires in (
-      search rules,
+      lit< tt,
       subst₂ (λ (txs : Txs) (pairs : List (ℕ × ℕ)). MayRestore c.args.graph.now txs pairs) (sym c.txs.ensures) (sym c.pairs.ensures)
           (may_restore c.args.graph.now block is.earlier (subst AreKept is.at c.self.invariant) few),
     )
