@@ -55,7 +55,7 @@ more_put done c txs new_txs pairs new put puts = record {
 
 -- ---- a walk over components
 
-now : Bor Cluster → Cluster
+abbrev now : Bor Cluster → Cluster
 now x = x.now
 
 -- one more was given

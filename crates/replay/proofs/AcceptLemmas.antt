@@ -3,7 +3,7 @@ use Rattle.std.proofs.Common.{◌≡◌, ℕ, ◌<◌, ◌≤◌, false, true, L
 use Rattle.std.specs.Prelude.{◌↔◌, ◌⊎◌, ◌==◌, Contains}
 use Rattle.std.specs.List.{zip}
 use Rattle.std.proofs.lemmas.Option.{same_Some}
-use Rattle.lists.proofs.Entries.{Contains-cases, Contains-head, none_in_empty}
+use Rattle.lists.proofs.Entries.{Contains-cases, Contains-head, Contains-later, none_in_empty}
 use Rattle.outside.specs.Transfers.{AppendsFront}
 use Rattle.graphs.specs.declared.names.Level.{Level}
 use Rattle.graphs.specs.declared.names.Level.TheVariants.{Main, Top}
@@ -189,7 +189,7 @@ line_accepted : {K : Type 0} (written : K → Option (List ℕ)) (old new : Stat
 line_accepted written old new line level Silence valid means step = absurd (true≢false (sym step.1 ∙ means.0))
 line_accepted written old new line level TooLong valid means step =
     absurd (omega (arith, step.0, one_longer line, ap length means.1.0, proof_short level))
-line_accepted written old new line level Unread valid means step = absurd (step.1.1 (Proof level) means.1 means.2)
+line_accepted written old new line level Unread valid means step = absurd (step.1.1 (Proof level) means.1)
 line_accepted written old new line level (Replies reply) valid means (short, command, others, step) =
     let same : command ≡ Proof level = one_command (without_return line) command (Proof level) others.1 means.1 in
     elim (step_answered written old new level reply valid (subst (λ (c : Command). Step old c reply new) same step)) [
@@ -253,7 +253,7 @@ strict_in written old end (first ∷ lines) (reply ∷ answers) valid strict set
       | inr later ↦
           strict_in written next end lines answers (line_valid old next first reply valid step)
           (line_strict old next first reply (λ bounds. sets first bounds (Contains-head first lines)) step strict)
-          (λ other bounds there. sets other bounds (Contains-behind first other lines there)) run line level answer later means
+          (λ other bounds there. sets other bounds (Contains-later first other lines there)) run line level answer later means
     ]
 
 pub check_accepts_proofs : {K : Type 0} (written : K → Option (List ℕ)) → CheckAcceptsProofs written

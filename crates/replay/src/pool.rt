@@ -7,7 +7,8 @@ ghost use Rattle.graph_model.specs.Replies.{Number, built_reply, change_reply, e
 ghost use Rattle.graph_model.specs.States.{State, start};
 ghost use Rattle.tx_graph.specs.Kept as graphs;
 ghost use Rattle.tx_graph.specs.Readings.{compare_reply, place_reply, settle_reply};
-ghost use Rattle.reorg.specs.Kept.{MakesStep, StandsFor, unmined_reply};
+ghost use Rattle.reorg.specs.Blocks.{unmined_reply};
+ghost use Rattle.reorg.specs.Kept.{MakesStep, StandsFor};
 ghost use Rattle.replay.specs.Pools.{most_raised};
 ghost use Rattle.replay.specs.Requests.{change_command, search_command};
 
