@@ -1,5 +1,4 @@
 pub mod SessionLemmas
-pub mod SessionRoom
 pub mod YieldedLemmas
 pub mod CheckLemmas
 pub mod LimitLemmas
@@ -19,4 +18,3 @@ pub mod CornerLemmas
 pub mod SummaryLemmas
 pub mod AskedLemmas
 pub mod PoolLemmas
-pub mod PoolRoom

@@ -1,11 +1,17 @@
 -- Steps of a graph beside its mined blocks.
-use Rattle.std.proofs.Common.{◌≡◌, ℕ, List, subst, refl}
+use Rattle.std.proofs.Common.{◌≡◌, ◌≤◌, ◌*◌, ℕ, ℤ, List, [], ◌∷◌, length, is_ok, if◌then◌else◌, Ok, Err, subst, refl, lit≤}
+use Rattle.std.proofs.lemmas.List.{length-map}
+use Rattle.std.specs.declared.result.Result.{Result}
+use Rattle.graph_model.specs.declared.names.Refusal.{Refusal}
+use Rattle.lists.proofs.Entries.{Contains-head, none_in_empty}
 use Rattle.graph_model.specs.Commands.{Command}
 use Rattle.graph_model.specs.Replies.{Reply}
 use Rattle.graph_model.specs.Runs as runs
-use Rattle.graph_model.specs.States.{MinedBlock, State}
+use Rattle.graph_model.specs.Refusals.{latest_ids}
+use Rattle.graph_model.specs.States.{MinedBlock, State, start}
 use Rattle.tx_graph.specs.Kept as graphs
 use Rattle.reorg.specs.Kept.{Kept, StandsFor, MakesStep}
+use Rattle.reorg.specs.Blocks.{HaveAtMost}
 use Rattle.reorg.specs.Laws.{LeavesBlocks}
 use Rattle.reorg.proofs.Lifted.{lifted}
 use Rattle.replay.specs.declared.reading.Reading.{Reading}
@@ -15,7 +21,7 @@ use Rattle.replay.specs.declared.request.Change.TheVariants as changes
 use Rattle.replay.specs.declared.request.Search.{Search}
 use Rattle.replay.specs.declared.request.Search.TheVariants as searches
 use Rattle.replay.specs.Answers.{IsReadOf, IsReadOfGraph}
-use Rattle.replay.specs.Pools.{IsPool}
+use Rattle.replay.specs.Pools.{IsPool, most_raised}
 use Rattle.replay.specs.Requests.{change_command, search_command, reading_command}
 
 abbrev pub pool_of : graphs.Kept → List MinedBlock → Kept
@@ -44,6 +50,24 @@ pub pool_is_read : (graph : graphs.Kept) (kept : Kept) (command : Command) (answ
     → IsReadOfGraph graph command answer → IsReadOf kept command answer
 pool_is_read graph kept command answer leaves is (reply, steps, told) =
     (reply, lifted kept.graph kept.graph command reply kept.blocks leaves (subst (λ (g : graphs.Kept). graphs.MakesStep g g command reply) is steps), told)
+
+-- ---- the latest block, and no block
+
+pub latest_short : (blocks : List MinedBlock) → HaveAtMost blocks most_raised → length (latest_ids blocks) ≤ most_raised
+latest_short [] short = lit≤ tt
+latest_short (block ∷ earlier) short = rw (length-map block.txs (λ (tx : ℕ × ℤ × ℕ). tx.0)) (short block (Contains-head block earlier))
+
+pub few_restored : (blocks : List MinedBlock) (result : Result (List ℕ) Refusal) → HaveAtMost blocks most_raised
+    → (if is_ok result then length (latest_ids blocks) else 0) ≤ most_raised
+few_restored blocks (Ok ids) short = latest_short blocks short
+few_restored blocks (Err why) short = lit≤ tt
+
+pub pool_at_start : (w : ℕ) (graph : graphs.Kept) (blocks : List MinedBlock) → blocks ≡ [] → graphs.StandsFor graph (start (64 * w))
+    → IsPool (pool_of graph blocks)
+pool_at_start w graph blocks none stands = rw none record {
+  short = λ block within. absurd (none_in_empty block within);
+  stands = (start (64 * w), record { graph = stands; blocks = tt });
+}
 
 -- ---- requests whose commands leave the blocks
 

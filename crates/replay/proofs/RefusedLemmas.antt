@@ -1,7 +1,9 @@
--- Readings of an order where the level is oversized.
-use Rattle.std.proofs.Common.{◌≡◌, false, refl, sym, inl, ◌∙◌, Bool, Some, ◌↔◌, true≢false}
+-- Refusals: of readings where the level is oversized, and how they are told.
+use Rattle.std.proofs.Common.{◌≡◌, ℕ, List, false, refl, sym, inl, subst, ◌∙◌, Bool, Some, Err, ◌↔◌, true≢false}
 use Rattle.std.specs.Prelude.{IsTrue}
+use Rattle.std.specs.declared.result.Result.{Result}
 use Rattle.graphs.specs.declared.names.Level.{Level}
+use Rattle.graph_model.specs.declared.names.Refusal.{Refusal}
 use Rattle.graph_model.specs.declared.names.Refusal.TheVariants.{Oversized}
 use Rattle.graph_model.specs.Commands.{Command}
 use Rattle.graph_model.specs.Oversize.{IsOversized}
@@ -10,7 +12,9 @@ use Rattle.graph_model.specs.Replies.{Refused}
 use Rattle.graph_model.specs.Runs as runs
 use Rattle.graph_model.specs.States.{PlainState, State}
 use Rattle.tx_graph.specs.Kept.{Kept, StandsFor, MakesStep}
-use Rattle.replay.specs.Answers.{IsReadOfGraph}
+use Rattle.reorg.specs.Kept as pools
+use Rattle.replay.specs.declared.answer.Answer.{Answer}
+use Rattle.replay.specs.Answers.{IsReadOfGraph, Tells, answer_of}
 
 -- a command whose row starts with an oversized level is refused where the level is oversized
 pub refused_over : (kept : Kept) (command : Command) (level : Level)
@@ -28,3 +32,9 @@ reads_over kept command level row over = (Refused Oversized, refused_over kept c
 -- what a call says that answers whether something holds, where it answers no
 pub not_so : (answer : Bool) (A : Type 0) → (IsTrue answer ↔ A) → answer ≡ false → A → ⊥
 not_so answer A iff is holds = true≢false (sym (iff.1 holds) ∙ is)
+
+-- a refusal is told as it was answered
+pub refused_told : (kept : pools.Kept) (result : Result Answer Refusal) (found : List ℕ) (answer : runs.Answer) (why same : Refusal) → result ≡ Err same
+    → same ≡ why → Tells kept (answer_of result) found answer → answer ≡ runs.Replies (Refused why)
+refused_told kept result found answer why same is one told =
+    subst (λ (w : Refusal). answer ≡ runs.Replies (Refused w)) one (subst (λ (r : Result Answer Refusal). Tells kept (answer_of r) found answer) is told)

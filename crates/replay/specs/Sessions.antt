@@ -26,6 +26,6 @@ Suits line runs.TooLong = max_line < length line
 Suits line Unread = (length line ≤ max_line) × Means line NoForm
 Suits line (Replies reply) = (length line ≤ max_line) × (command : Command) × Means line (Says command)
 
--- there is room for the names that a line may list, and for those of a cluster of 64 w names
+-- there is just room for the names that a line may list, and for those of a cluster of 64 w names
 abbrev pub HasRoom : ℕ → Room → Type 0
-HasRoom w names = (32766 ≤ length names.ids + names.room) × (64 * w ≤ length names.ids + names.room)
+HasRoom w names = (length names.ids + names.room ≡ 32766) × (64 * w ≤ length names.ids + names.room)

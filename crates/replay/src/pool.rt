@@ -55,10 +55,12 @@ impl<const W: usize> Pool<W> {
         ensures start { IfOk result (λ pool. StandsFor pool (start (64 * W))) }
         ensures additions { IfOk result (λ pool. pool.graph.levels.issued ≡ 0) }
     {
+        let graph = TxGraph::new(alloc, DEFAULT_LIMITS)?;
+        let reorg = Reorg::new(alloc);
         Ok(Pool {
             alloc,
-            graph: TxGraph::new(alloc, DEFAULT_LIMITS)?,
-            reorg: Reorg::new(alloc),
+            graph,
+            reorg,
         })
     }
 
@@ -167,7 +169,8 @@ impl<const W: usize> Pool<W> {
     pub(crate) fn before(&self, a: TxId, b: TxId) -> Result<Place, Refusal>
         ensures step { MakesStep self.now self.now (Before a b) (place_reply result) }
     {
-        self.graph.before(a, b)
+        let place = self.graph.before(a, b);
+        place
     }
 
     /// The block of main of at most so many virtual bytes. Refuses where main is oversized.

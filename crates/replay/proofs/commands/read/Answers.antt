@@ -1,4 +1,4 @@
-use Rattle.std.proofs.Common.{ℕ, ◌*◌, ◌≤◌, refl, sym, subst, arith}
+use Rattle.std.proofs.Common.{ℕ, ◌≡◌, ◌*◌, ◌≤◌, refl, sym, subst, arith}
 use Rattle.replay.proofs.SessionLemmas.{meaning_answers, meaning_suits, some_mined}
 use Rattle.replay.proofs.commands.read.Goals as goal
 
@@ -7,12 +7,12 @@ returns-then-bytes-gt-MAX_LINE-clause-line g c answer told state stands = (state
 
 pub returns-clause-line : goal.returns-clause-line
 returns-clause-line g c answer told =
-    meaning_answers c.args.graph.now c.obey_unpaid.new.graph c.args.bytes.now _ answer c.if-bytes-gt-MAX_LINE.false c.read_line-line.ensures.meaning
+    meaning_answers c.args.pool.now c.obey_unpaid.new.pool c.args.bytes.now _ answer c.if-bytes-gt-MAX_LINE.false c.read_line-line.ensures.meaning
     (c.obey_unpaid.ensures.answers answer told)
 
 pub returns-clause-suits : goal.returns-clause-suits
 returns-clause-suits g c answer told =
-    meaning_suits c.args.graph.now c.obey_unpaid.new.graph c.args.bytes.now _ answer c.if-bytes-gt-MAX_LINE.false c.read_line-line.ensures.meaning
+    meaning_suits c.args.pool.now c.obey_unpaid.new.pool c.args.bytes.now _ answer c.if-bytes-gt-MAX_LINE.false c.read_line-line.ensures.meaning
     (c.obey_unpaid.ensures.answers answer told)
 
 pub obey_unpaid-requires : goal.obey_unpaid-requires
@@ -21,7 +21,7 @@ obey_unpaid-requires g c = record {
   parts = refl;
   some = omega (arith, c.new.ensures);
   few = c.requires.few;
-  room = subst (λ (n : ℕ). (32766 ≤ n) × (64 * g.row.W ≤ n)) (sym c.read_line-line.ensures.room) c.requires.room;
+  room = subst (λ (n : ℕ). (n ≡ 32766) × (64 * g.row.W ≤ n)) (sym c.read_line-line.ensures.room) c.requires.room;
   mines = some_mined c.args.bytes.now _ c.read_line-line.ensures.meaning;
 }
 

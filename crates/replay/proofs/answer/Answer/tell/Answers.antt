@@ -1,5 +1,5 @@
 use Rattle.std.proofs.Common.{refl}
-use Rattle.graph_model.specs.Replies.{Refused, Done, Ids, Number, Stands, Compared, Settled, Evicted, Built, Trimmed, picked_sum}
+use Rattle.graph_model.specs.Replies.{Refused, Done, Ids, Number, Stands, Compared, Settled, Evicted, Built, Trimmed, Unmined, picked_sum}
 use Rattle.graph_model.specs.Runs as runs
 use Rattle.replay.proofs.WritingLemmas.{one_line}
 use Rattle.replay.proofs.answer.Answer.tell.Goals as goal
@@ -85,4 +85,12 @@ returns-in-Trimmed g c = (
   rw c.in-Trimmed.is refl,
   c.told-in-Trimmed.ensures.writes _ _ _ _ _ (one_line _ _ _ _ _ _ c.write_picked-in-Trimmed.ensures),
   c.told-in-Trimmed.ensures.told,
+)
+
+pub returns-in-Unmined : goal.returns-in-Unmined
+returns-in-Unmined g c = (
+  runs.Replies (Unmined c.in-Unmined.ids),
+  rw c.in-Unmined.is refl,
+  c.told-in-Unmined.ensures.writes _ _ _ _ _ (one_line _ _ _ _ _ _ (rw c.as_slice.ensures at c.write_ids-in-Unmined.ensures)),
+  c.told-in-Unmined.ensures.told,
 )

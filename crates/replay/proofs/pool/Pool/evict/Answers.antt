@@ -1,7 +1,7 @@
+use Rattle.std.proofs.Common.{lit<}
 use Rattle.graph_model.specs.Commands.{Evict}
 use Rattle.graph_model.specs.Replies.{evicted_reply}
 use Rattle.replay.proofs.PoolLemmas.{pool_steps, pool_stays}
-use Rattle.replay.proofs.PoolRoom.{graph_in_pool}
 use Rattle.replay.proofs.pool.Pool.evict.Goals as goal
 
 pub invariant_of-self : goal.invariant_of-self
@@ -13,4 +13,4 @@ returns-clause-step g c =
     pool_steps c.self.inside.graph c.evict.new.graph c.self.inside.reorg c.args.self.now (Evict) (evicted_reply c.evict.result) tt c.self.view_is c.evict.ensures.step
 
 pub evict-requires : goal.evict-requires
-evict-requires g c = graph_in_pool g.row.W assumption
+evict-requires g c = lit< tt

@@ -1,7 +1,7 @@
+use Rattle.std.proofs.Common.{lit<}
 use Rattle.graph_model.specs.Replies.{names_reply}
 use Rattle.replay.specs.Requests.{search_command}
 use Rattle.replay.proofs.PoolLemmas.{pool_reads, search_leaves}
-use Rattle.replay.proofs.PoolRoom.{graph_in_pool}
 use Rattle.replay.proofs.pool.Pool.find.Goals as goal
 
 pub returns-clause-step : goal.returns-clause-step
@@ -9,4 +9,4 @@ returns-clause-step g c =
     pool_reads c.self.inside.graph c.self.inside.reorg c.args.self.now (search_command c.args.search) (names_reply c.find.result c.find.new.ids.ids) (search_leaves c.args.search) c.self.view_is c.find.ensures.step
 
 pub find-requires : goal.find-requires
-find-requires g c = graph_in_pool g.row.W assumption
+find-requires g c = (lit< tt, c.requires.room)

@@ -1,7 +1,7 @@
+use Rattle.std.proofs.Common.{lit<}
 use Rattle.graph_model.specs.Commands.{Settle}
 use Rattle.tx_graph.specs.Readings.{settle_reply}
 use Rattle.replay.proofs.PoolLemmas.{pool_steps, pool_stays}
-use Rattle.replay.proofs.PoolRoom.{graph_in_pool}
 use Rattle.replay.proofs.pool.Pool.settle.Goals as goal
 
 pub invariant_of-self : goal.invariant_of-self
@@ -13,4 +13,4 @@ returns-clause-step g c =
     pool_steps c.self.inside.graph c.settle.new.self c.self.inside.reorg c.args.self.now (Settle) (settle_reply c.settle.result) tt c.self.view_is c.settle.ensures.step
 
 pub settle-requires : goal.settle-requires
-settle-requires g c = graph_in_pool g.row.W assumption
+settle-requires g c = lit< tt

@@ -1,7 +1,7 @@
+use Rattle.std.proofs.Common.{lit<}
 use Rattle.graph_model.specs.Commands.{Trim}
 use Rattle.graph_model.specs.Replies.{trimmed_reply}
 use Rattle.replay.proofs.PoolLemmas.{pool_steps, pool_stays}
-use Rattle.replay.proofs.PoolRoom.{graph_in_pool}
 use Rattle.replay.proofs.pool.Pool.trim.Goals as goal
 
 pub invariant_of-self : goal.invariant_of-self
@@ -13,4 +13,4 @@ returns-clause-step g c =
     pool_steps c.self.inside.graph c.trim.new.graph c.self.inside.reorg c.args.self.now (Trim) (trimmed_reply c.trim.result) tt c.self.view_is c.trim.ensures.step
 
 pub trim-requires : goal.trim-requires
-trim-requires g c = graph_in_pool g.row.W assumption
+trim-requires g c = lit< tt

@@ -1,8 +1,7 @@
-use Rattle.std.proofs.Common.{subst, sym, List, ℕ, ◌≡◌, ◌<◌, ◌≤◌, ◌+◌}
+use Rattle.std.proofs.Common.{subst, sym, List, ℕ, ◌≡◌, ◌<◌, ◌≤◌, ◌+◌, lit<}
 use Rattle.reorg.specs.Kept.{Kept}
 use Rattle.replay.specs.Answers.{Tells}
 use Rattle.replay.specs.Sessions.{Answers}
-use Rattle.replay.proofs.SessionRoom.{pool_in_session}
 use Rattle.replay.proofs.session.Session.gather.Goals as goal
 
 pub returns-clause-line : goal.returns-clause-line
@@ -16,7 +15,7 @@ returns-clause-line g c line is =
 pub answer-found-requires : goal.answer-found-requires
 answer-found-requires g c =
     let few = subst (λ (k : Kept). k.graph.levels.issued + 32766 ≤ 18446744073709551615) (sym c.self.view_is) c.requires in
-    (pool_in_session g.row.W assumption, (few, c.self.invariant))
+    (lit< tt, (few, c.self.invariant))
 
 pub returns-clause-cause : goal.returns-clause-cause
 returns-clause-cause g c = c.tell.ensures.cause
@@ -26,4 +25,4 @@ returns-clause-additions g c =
     subst (λ (k : Kept). c.answer-found.new.pool.graph.levels.issued ≤ k.graph.levels.issued + 32766) c.self.view_is c.answer-found.ensures.additions
 
 pub tell-requires-room-G-Obeys : goal.tell-requires-room-G-Obeys
-tell-requires-room-G-Obeys g c = λ κs below. pool_in_session g.row.W assumption
+tell-requires-room-G-Obeys g c = λ κs below. lit< tt

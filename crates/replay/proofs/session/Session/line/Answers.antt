@@ -1,10 +1,9 @@
-use Rattle.std.proofs.Common.{subst, sym, List, [], ℕ, ◌≡◌, ◌<◌, ◌≤◌, ◌+◌}
+use Rattle.std.proofs.Common.{subst, sym, List, [], ℕ, ◌≡◌, ◌<◌, ◌≤◌, ◌+◌, lit<}
 use Rattle.graph_model.specs.Lines.{Meaning}
 use Rattle.reorg.specs.Kept.{Kept}
 use Rattle.wire.specs.Readings.{meaning_of}
 use Rattle.replay.specs.Answers.{Tells, AnswersMeaning}
 use Rattle.replay.proofs.PlayLemmas.{meaning_alone, none_mined}
-use Rattle.replay.proofs.SessionRoom.{pool_in_session}
 use Rattle.replay.proofs.session.Session.line.Goals as goal
 
 pub returns-clause-line : goal.returns-clause-line
@@ -25,7 +24,7 @@ returns-clause-line g c =
 pub answer_line-found-requires : goal.answer_line-found-requires
 answer_line-found-requires g c =
     let few = subst (λ (k : Kept). k.graph.levels.issued + 32766 ≤ 18446744073709551615) (sym c.self.view_is) c.requires.few in
-    (pool_in_session g.row.W assumption, (few, (c.self.invariant, none_mined c.args.line c.self.inside.ids.ids c.requires.not_mine)))
+    (lit< tt, (few, (c.self.invariant, none_mined c.args.line c.self.inside.ids.ids c.requires.not_mine)))
 
 pub returns-clause-cause : goal.returns-clause-cause
 returns-clause-cause g c = c.tell.ensures.2.cause
@@ -35,4 +34,4 @@ returns-clause-additions g c =
     subst (λ (k : Kept). c.answer_line-found.new.pool.graph.levels.issued ≤ k.graph.levels.issued + 32766) c.self.view_is c.answer_line-found.ensures.additions
 
 pub tell-requires-room-G-Obeys : goal.tell-requires-room-G-Obeys
-tell-requires-room-G-Obeys g c = λ κs below. pool_in_session g.row.W assumption
+tell-requires-room-G-Obeys g c = λ κs below. lit< tt

@@ -1,6 +1,5 @@
-use Rattle.std.proofs.Common.{rules}
-use Rattle.replay.proofs.Rooms.{graph_fits}
+use Rattle.std.proofs.Common.{lit<}
 use Rattle.replay.proofs.session.Session.new.Goals as goal
 
 pub new-requires-2 : goal.new-requires-2
-new-requires-2 g c = (graph_fits g.row.W c.requires.narrow, (search rules, (c.requires.wide, c.requires.narrow)))
+new-requires-2 g c = (lit< tt, (c.requires.wide, c.requires.narrow))
