@@ -592,7 +592,7 @@ fn a_source_that_stops_has_its_complete_lines_answered(rt: HostRuntime) -> Resul
 
 /// Adds a name for a sink that takes nothing, and counts the names for one that does.
 fn adds_and_counts(rt: &impl Abort, alloc: Global, session: &mut Session<2>) -> Result<(), Fail>
-    requires { session.old.levels.issued ≡ 0 }
+    requires { session.old.graph.levels.issued ≡ 0 }
 {
     let mut broken = MemSink::new(alloc, 1, &[], 0)?;
     assert_eq!(rt;
