@@ -1,6 +1,7 @@
 //! Transactions that come back into main.
-ghost use Rattle.std.specs.Prelude.{◌≡◌, ◌↔◌, ℕ, ◌+◌, ◌^◌, ◌<◌, None, Option, Contains, length, is_ok, if◌then◌else◌, IfOk, IsTrue, OnErr, MatchResult};
+ghost use Rattle.std.specs.Prelude.{◌≡◌, ◌≢◌, ◌↔◌, ℕ, ◌+◌, ◌^◌, ◌<◌, None, Option, Contains, length, is_ok, if◌then◌else◌, IfErr, IfOk, IsTrue, MatchResult};
 ghost use Rattle.graph_model.specs.declared.names.Refusal.{Refusal as refusals};
+ghost use Rattle.graph_model.specs.declared.names.Refusal.TheVariants.{Memory};
 ghost use Rattle.graph_model.specs.Changes.{ids_of};
 ghost use Rattle.graph_model.specs.States.{State};
 ghost use Rattle.levels.specs.Levels.{IsLive};
@@ -18,8 +19,8 @@ use step_count::{Ledger, Steps};
 
 impl<const W: usize> TxGraph<W> {
     /// Puts transactions that are in no level into main, each with its fee in satoshis and its size in virtual bytes, and with them those of
-    /// the dependencies (parent, child) whose child is one of them or in main. The others are passed over. The list isn't empty and names
-    /// no transaction twice; each parent is one of the names, and the dependencies have no cycle. The names may stand in any order.
+    /// the dependencies (parent, child) whose child is one of them or in main. The others are passed over. The list names no transaction
+    /// twice; each parent is one of the names, and the dependencies have no cycle. The names may stand in any order.
     ///
     /// Each cluster that is made is made once, at once with the others. The work is near linear in the names, the dependencies, and the
     /// clusters of main that get a new parent. The solver takes at most the sum of 2·(n+2)^5 steps over the clusters of n transactions
@@ -47,7 +48,7 @@ impl<const W: usize> TxGraph<W> {
         ensures row { (state : State) → StandsFor self.old state → MatchResult result
             (λ _. RestoreRefusalIs state.plain names.now pairs.now None)
             (λ why. (found : Option refusals) × RestoreRefusalIs state.plain names.now pairs.now found × IsAnsweredBy found why) }
-        ensures same { OnErr result (self.new ≡ self.old) }
+        ensures refused { IfErr result (λ why. (self.new ≡ self.old) × (why ≢ Memory → steps.new ≡ steps.old)) }
         ensures stays { AllStay self.old.levels self.new.levels }
         ensures additions { self.new.levels.issued ≡ self.old.levels.issued + (if is_ok result then length names.now else 0) }
         ensures steps { RestoresWithin self.old.levels.limits self.old.levels.main.graph names.now pairs.now steps.old steps.new }
