@@ -12,8 +12,8 @@
 
 mod dumping;
 mod listing;
-mod sink;
-mod sorting;
-mod writing;
+mod loading;
 
+pub use dump_text::LoadFault;
 pub use dumping::{DumpText, text};
+pub use loading::load;
