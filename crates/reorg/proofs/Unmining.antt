@@ -256,6 +256,7 @@ pub may_restore : (kept : graphs.Kept) (block : MinedBlock) (earlier : List Mine
 may_restore kept block earlier are few =
     let is = are.whole block (Contains-head block earlier) in
     record {
+      some = is.some;
       once = is.once;
       in_range = λ id fee size here. let rate = is.rates id fee size here in record { fee = rate.0; some = rate.1.0; size = rate.1.1 };
       parents = is.parents;

@@ -1,5 +1,5 @@
 -- Transactions that are in no level come into main with dependencies, and what that is refused for.
-use Rattle.std.specs.Prelude.{◌≡◌, ◌⊎◌, ℕ, ℤ, ◌+◌, ◌-◌, ◌^◌, ◌≤◌, List, length, Contains, Option, None, Some}
+use Rattle.std.specs.Prelude.{◌≡◌, ◌≢◌, ◌⊎◌, ℕ, ℤ, ◌+◌, ◌-◌, ◌^◌, ◌≤◌, List, [], length, Contains, Option, None, Some}
 use Rattle.lists.specs.Distinct.{AreDistinct}
 use Rattle.fee_rate.specs.Limits.{IsRate}
 use Rattle.graphs.specs.Certificates.{Txs}
@@ -17,9 +17,10 @@ use Rattle.tx_graph.specs.Kept.{Kept, StandsFor}
 abbrev pub Meets : Kept → Command → Option Refusal → Type 0
 Meets kept command found = (state : State) → StandsFor kept state → RefusalIs state.plain command found
 
--- Transactions with their dependencies that may be put back: each name once, fees and sizes in range, each parent one of them, and no
--- cycle; and as many additions can be counted.
+-- Transactions with their dependencies that may be put back: one at least, each name once, fees and sizes in range, each parent one of
+-- them, and no cycle; and as many additions can be counted.
 pub record MayRestore (kept : Kept) (txs : Txs) (pairs : List (ℕ × ℕ)) : Type 0 where
+  pub some : txs ≢ []
   pub once : AreDistinct (ids_of txs)
   pub in_range : (id : ℕ) (fee : ℤ) (size : ℕ) → Contains txs (id, fee, size) → IsRate (record { fee = fee; size = size })
   pub parents : (a b : ℕ) → Contains pairs (a, b) → Contains (ids_of txs) a

@@ -19,8 +19,8 @@ use step_count::{Ledger, Steps};
 
 impl<const W: usize> TxGraph<W> {
     /// Puts transactions that are in no level into main, each with its fee in satoshis and its size in virtual bytes, and with them those of
-    /// the dependencies (parent, child) whose child is one of them or in main. The others are passed over. The list names no transaction
-    /// twice; each parent is one of the names, and the dependencies have no cycle. The names may stand in any order.
+    /// the dependencies (parent, child) whose child is one of them or in main. The others are passed over. The list isn't empty and names
+    /// no transaction twice; each parent is one of the names, and the dependencies have no cycle. The names may stand in any order.
     ///
     /// Each cluster that is made is made once, at once with the others. The work is near linear in the names, the dependencies, and the
     /// clusters of main that get a new parent. The solver takes at most the sum of 2·(n+2)^5 steps over the clusters of n transactions
