@@ -1,12 +1,12 @@
 -- A graph's text that comes into a graph which holds nothing.
-use Rattle.std.proofs.Common.{◌≡◌, ◌≢◌, ◌⊎◌, ℕ, ℤ, pos, get_or, ◌+◌, ◌*◌, ◌<◌, ◌≤◌, ◌^◌, true, false, true≢false, List, length, Option, None, Some, is_some, Contains, inl, inr, refl, sym, ap, subst, ◌∙◌, arith}
-use Rattle.std.specs.Prelude.{sum_by}
+use Rattle.std.proofs.Common.{◌≡◌, ◌≢◌, ◌⊎◌, ℕ, ℤ, pos, get_or, ◌+◌, ◌*◌, ◌<◌, ◌≤◌, ◌^◌, true, false, true≢false, List, [], ◌∷◌, length, Option, None, Some, is_some, Contains, inl, inr, refl, sym, ap, subst, ◌∙◌, arith}
+use Rattle.std.specs.Prelude.{sum_by, Result, Ok, Err, OnOk, IfErr, MatchResult}
 use Rattle.std.specs.Ordering.{nat_cmp}
 use Rattle.std.specs.FinMap as finmap
 use Rattle.std.proofs.lemmas.List.{get_or_default, length-map}
 use Rattle.std.proofs.lemmas.List.Elements.{Contains-get_or}
 use Rattle.lists.proofs.Cases.{some_none}
-use Rattle.lists.proofs.Entries.{none_in_empty}
+use Rattle.lists.proofs.Entries.{Contains-map, none_in_empty}
 use Rattle.fee_rate.specs.declared.rates.Sum.{Sum}
 use Rattle.fee_rate.specs.declared.limits.TheConstants.{MAX_TOTAL}
 use Rattle.graphs.specs.Alikes.{AreAlike}
@@ -17,25 +17,34 @@ use Rattle.graphs.proofs.WalkLemmas.{AreConnected-sym, AreConnected-trans}
 use Rattle.graph_model.specs.declared.names.Limits.{Limits}
 use Rattle.graph_model.specs.declared.names.Refusal.{Refusal}
 use Rattle.graph_model.specs.declared.names.Refusal.TheVariants.{Memory}
-use Rattle.graph_model.specs.Changes.{Restores, ids_of}
+use Rattle.graph_model.specs.Changes.{Restores, ids_of, limited}
+use Rattle.graph_model.specs.Commands.{SetLimits}
 use Rattle.graph_model.specs.Dumps.{DumpText, FitsBounds, HasDumpTypes, IsGraphText, loaded_graph}
-use Rattle.graph_model.specs.Limits.{Bounds, bounds_of}
+use Rattle.graph_model.specs.Limits.{AreInRange, Bounds, bounds_of}
 use Rattle.graph_model.specs.Oversize.{HasOver}
 use Rattle.graph_model.specs.Refusals.{BringsOver, IsInOver}
+use Rattle.graph_model.specs.Replies.{Done}
 use Rattle.graph_model.specs.States.{Entry, PlainState, State, plain_start, rate_of, size_of}
+use Rattle.graph_model.specs.Steps.{KeepsPicks, Step}
 use Rattle.graph_model.proofs.FirstLemmas.{first_in}
 use Rattle.graph_model.proofs.LevelLemmas.{over_along}
 use Rattle.graph_model.proofs.LoadLemmas.{alike}
 use Rattle.graph_model.proofs.TrimLemmas.{along_trail, rising_once}
 use Rattle.graph_model.proofs.TxLemmas.{size_told}
-use Rattle.tx_graph.specs.Kept.{Kept, Leads, StandsFor, start_within}
+use Rattle.tx_graph.specs.Kept.{Kept, Leads, MakesStep, StandsFor, start_within}
 use Rattle.tx_graph.specs.Restored.{IsAnsweredBy, MayRestore, RestoreRefusalIs, RestoresSet}
-use Rattle.dump.specs.Loading.{AreSmall, FitsAndIsMade}
+use Rattle.dump_text.specs.declared.fault.LoadFault.{LoadFault}
+use Rattle.dump_text.specs.declared.fault.LoadFault.TheVariants.{Memory as NoRoom}
+use Rattle.dump.specs.Loading.{AreSmall, FitsAndIsMade, MakesNone}
 
 -- ---- transactions one by one
 
 abbrev pub tx_at : Txs → ℕ → ℕ × ℤ × ℕ
 tx_at txs k = get_or txs k (0, pos 0, 0)
+
+pub empty_of : (txs : Txs) → length txs ≡ 0 → txs ≡ []
+empty_of [] none = refl
+empty_of (tx ∷ txs) some = absurd (omega (arith, some))
 
 pub small_all : (bounds : Bounds) (txs : Txs) → length txs ≤ bounds.total → ((k : ℕ) → k < length txs → (tx_at txs k).2 ≤ bounds.size)
     → AreSmall bounds txs
@@ -49,9 +58,10 @@ small_all bounds txs few each = record {
 pub small_at : (bounds : Bounds) (txs : Txs) (k : ℕ) → AreSmall bounds txs → k < length txs → (tx_at txs k).2 ≤ bounds.size
 small_at bounds txs k small low = small.sizes _ _ _ (Contains-get_or txs k (0, pos 0, 0) low)
 
-pub may_restore : (kept : Kept) (text : DumpText) → IsGraphText text → length text.txs ≤ MAX_TOTAL → kept.levels.issued ≡ 0
+pub may_restore : (kept : Kept) (text : DumpText) → IsGraphText text → text.txs ≢ [] → length text.txs ≤ MAX_TOTAL → kept.levels.issued ≡ 0
     → MayRestore kept text.txs text.edges
-may_restore kept text is few none = record {
+may_restore kept text is some few none = record {
+  some = some;
   once = rising_once (ids_of text.txs) is.names;
   in_range = λ id fee size here. let rate = is.rates id fee size here in record { fee = rate.0; some = rate.1.0; size = rate.1.1 };
   parents = λ a b here. (is.ends a b here).0;
@@ -142,12 +152,9 @@ module _ (most : ℕ) (limits : Limits) (text : DumpText) (types : HasDumpTypes 
   pub is_made : (old new : Kept) → StandsFor old (start_within most limits) → old.levels.issued ≡ 0 → Leads old new (RestoresSet text.txs text.edges)
       → new.levels.issued ≡ old.levels.issued + length text.txs → FitsAndIsMade most (bounds_of limits) text new
   is_made old new stands none leads counted =
-      let (next, now, restores, keeps) = leads (start_within most limits) stands in (
-        fits most (bounds_of limits) text types is small next.plain restores now.plain.valid.main.within,
-        next,
-        record { plain = restores; picks = keeps.picks },
-        now,
-        counted ∙ ap (λ n. n + length text.txs) none,
+      let (next, now, both) = leads (start_within most limits) stands in (
+        fits most (bounds_of limits) text types is small next.plain both.0 now.plain.valid.main.within,
+        (next, record { plain = both.0; picks = both.1.picks }, now, counted ∙ ap (λ n. n + length text.txs) none),
       )
 
   none_over : (why : Refusal) → BringsOver (start_within most limits).plain text.txs text.edges why → FitsBounds (bounds_of limits) text → ⊥
@@ -161,7 +168,7 @@ module _ (most : ℕ) (limits : Limits) (text : DumpText) (types : HasDumpTypes 
   fits_not found why row answered other fine = elim answered [
     | inr memory ↦ other memory.0
     | inl same ↦ elim row [
-      | inl staged ↦ staged.0
+      | inl staged ↦ true≢false (sym staged.0)
       | inr alone ↦ elim alone.1 [
         | inl back ↦ true≢false (sym back.1.has ∙ ap is_some (finmap.get-empty nat_cmp back.0))
         | inr gone ↦ elim gone.1 [
@@ -177,3 +184,56 @@ module _ (most : ℕ) (limits : Limits) (text : DumpText) (types : HasDumpTypes 
       ]
     ]
   ]
+
+  -- ---- without transactions
+
+  module _ (empty : text.txs ≡ []) where
+    none_named : (id : ℕ) → Contains (ids_of text.txs) id → ⊥
+    none_named id here = none_in_empty id (subst (λ (ts : Txs). Contains (ids_of ts) id) empty here)
+
+    none_paired : (a b : ℕ) → Contains text.edges (a, b) → ⊥
+    none_paired a b here = none_named a (is.ends a b here).0
+
+    module _ (next : PlainState) (changed : next ≡ limited (start_within most limits).plain (bounds_of limits)) where
+      comes : Restores (start_within most limits).plain text.txs text.edges next
+      comes = subst (Restores (start_within most limits).plain text.txs text.edges) (sym changed) (record {
+        same = refl;
+        graph = record {
+          names = λ id. (inl, λ either. elim either [ inl was ↦ was | inr put ↦ absurd (none_named id put) ]);
+          names_once = tt;
+          pairs = λ a b. (inl, λ either. elim either [ inl was ↦ was | inr put ↦ absurd (none_paired a b put.0) ]);
+          pairs_once = tt;
+        };
+        listed = λ id fee size here. absurd (none_named id (Contains-map (λ (tx : ℕ × ℤ × ℕ). tx.0) text.txs (id, fee, size) here));
+        others = λ id out. refl;
+      })
+
+    -- where limits that are in range are set, the machine does so
+    set : AreInRange most (bounds_of limits) → (next : State) → Step (start_within most limits) (SetLimits (bounds_of limits)) Done next
+        → (next.plain ≡ limited (start_within most limits).plain (bounds_of limits)) × KeepsPicks (start_within most limits) next
+    set in_range next step = elim step [
+      | inl refused ↦ absurd (elim refused.first [
+        | inl late ↦ true≢false (sym late.0)
+        | inr early ↦ elim early.1 [ inl range ↦ range.0 in_range | inr free ↦ some_none refused.why free.1 ]
+      ])
+      | inr rest ↦ elim rest [
+        | inl want ↦ absurd (elim want [ inl lacks ↦ lacks.may | inr gives ↦ gives.may ])
+        | inr fine ↦ (fine.accepts.plain.change, fine.accepts.picks)
+      ]
+    ]
+
+    begun_made : (old new : Kept) → StandsFor old (start_within most limits) → AreInRange most (bounds_of limits) → old.levels.issued ≡ 0
+        → new.levels.issued ≡ old.levels.issued → MakesStep old new (SetLimits (bounds_of limits)) Done → FitsAndIsMade most (bounds_of limits) text new
+    begun_made old new stands in_range none counted leads =
+        let (next, now, step) = leads (start_within most limits) stands in
+        let did = set in_range next step in
+        let restores = comes next.plain did.0 in (
+          fits most (bounds_of limits) text types is small next.plain restores now.plain.valid.main.within,
+          (next, record { plain = restores; picks = did.1.picks }, now, counted ∙ none ∙ sym (ap (λ (ts : Txs). length ts) empty)),
+        )
+
+    pub begins : {T : Type 0} (old new : Kept) (done : Result T LoadFault) → StandsFor old (start_within most limits) → AreInRange most (bounds_of limits)
+        → old.levels.issued ≡ 0 → new.levels.issued ≡ old.levels.issued → OnOk done (MakesStep old new (SetLimits (bounds_of limits)) Done)
+        → IfErr done (λ fault. fault ≡ NoRoom) → MatchResult done (λ _. FitsAndIsMade most (bounds_of limits) text new) (MakesNone (bounds_of limits) text)
+    begins old new (Ok x) stands in_range none counted leads lacks = begun_made old new stands in_range none counted leads
+    begins old new (Err fault) stands in_range none counted leads lacks = subst (MakesNone (bounds_of limits) text) (sym lacks) tt

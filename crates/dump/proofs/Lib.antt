@@ -1,5 +1,6 @@
 mod Dumped
 mod Filled
 mod Listed
+mod Loaded
 mod Rooms
 mod Walking

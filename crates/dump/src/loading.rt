@@ -1,7 +1,9 @@
-ghost use Rattle.std.specs.Prelude.{◌≡◌, ◌*◌, ◌≤◌, MatchBool, MatchResult};
+ghost use Rattle.std.specs.Prelude.{◌≡◌, ◌*◌, ◌≤◌, IfErr, OnOk, MatchBool, MatchResult};
+ghost use Rattle.graph_model.specs.Commands.{SetLimits};
 ghost use Rattle.graph_model.specs.Dumps.{HasDumpTypes, IsGraphText};
 ghost use Rattle.graph_model.specs.Limits.{AreInRange, bounds_of};
-ghost use Rattle.tx_graph.specs.Kept.{StandsFor, start_within};
+ghost use Rattle.graph_model.specs.Replies.{Done};
+ghost use Rattle.tx_graph.specs.Kept.{MakesStep, StandsFor, start_within};
 ghost use Rattle.dump.specs.Loading.{AreSmall, FitsAndIsMade, LoadGives, MakesNone};
 ghost use Rattle.dump_text.specs.Lists.{text_of};
 
@@ -42,8 +44,10 @@ pub fn load<const W: usize, L: Ledger>(
     requires narrow { W ≤ 2 }
     ensures loads { LoadGives (64 * W) (bounds_of limits) bytes.now result }
 {
-    let lists = read_lists(alloc, bytes)?;
-    make(alloc, &lists, limits, steps)
+    match read_lists(alloc, bytes) {
+        Ok(lists) => make(alloc, &lists, limits, steps),
+        Err(fault) => Err(fault),
+    }
 }
 
 /// Whether there are few enough transactions, and none is larger than a cluster may be.
@@ -100,9 +104,27 @@ fn fill<const W: usize, L: Ledger>(
     ensures { MatchResult result (λ _. FitsAndIsMade (64 * W) (bounds_of graph.old.levels.limits) (text_of lists.now) graph.new)
         (MakesNone (bounds_of graph.old.levels.limits) (text_of lists.now)) }
 {
+    if lists.txs.len() == 0 {
+        return begin(graph);
+    }
+    // (nothing is live, and there is room, so that no other refusal comes than these two and want of memory)
     match graph.restore(lists.txs.as_slice(), lists.edges.as_slice(), steps) {
         Ok(()) => Ok(()),
-        Err(Refusal::Memory) => Err(LoadFault::Memory),
-        Err(_) => Err(LoadFault::Limits),
+        Err(Refusal::Count(_)) => Err(LoadFault::Limits),
+        Err(Refusal::ClusterSize(_)) => Err(LoadFault::Limits),
+        Err(_) => Err(LoadFault::Memory),
+    }
+}
+
+/// Counts as a change that a graph without transactions was made: its limits are set anew, as they are.
+fn begin<const W: usize>(graph: &mut TxGraph<W>) -> Result<(), LoadFault>
+    ensures step { OnOk result (MakesStep graph.old graph.new (SetLimits (bounds_of graph.old.levels.limits)) Done) }
+    ensures additions { graph.new.levels.issued ≡ graph.old.levels.issued }
+    ensures memory { IfErr result (λ fault. fault ≡ LoadFault.Memory) }
+{
+    let limits = graph.limits();
+    match graph.set_limits(limits) {
+        Ok(()) => Ok(()),
+        Err(_) => Err(LoadFault::Memory),
     }
 }

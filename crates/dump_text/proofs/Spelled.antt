@@ -13,7 +13,7 @@ use Rattle.wire.specs.Drafts as drafts
 use Rattle.wire.proofs.TextLemmas.{text_same}
 use Rattle.dump_text.specs.declared.fault.LoadFault.{LoadFault}
 use Rattle.dump_text.specs.declared.fault.LoadFault.TheVariants.{Syntax, Graph, Limits, Memory}
-use Rattle.dump_text.specs.declared.lists.Lists.{Lists}
+use Rattle.dump_text.specs.declared.entries.Lists.{Lists}
 use Rattle.dump_text.specs.Reading.{Confirms, Reads}
 
 -- ---- the lines of a text

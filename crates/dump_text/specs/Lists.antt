@@ -1,6 +1,6 @@
 -- Lists as a text.
 use Rattle.graph_model.specs.Dumps.{DumpText}
-use Rattle.dump_text.specs.declared.lists.Lists.{Lists}
+use Rattle.dump_text.specs.declared.entries.Lists.{Lists}
 
 -- transactions and edges as a text
 abbrev pub text_of : Lists → DumpText

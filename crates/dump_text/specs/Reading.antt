@@ -3,7 +3,7 @@ use Rattle.std.specs.Prelude.{◌≡◌, ℕ, List, Result, Ok, Err}
 use Rattle.graph_model.specs.Dumps.{DumpText, Dumps, IsGraphText, dump_bytes}
 use Rattle.wire.specs.declared.texts.draft.CertText.{CertText}
 use Rattle.dump_text.specs.Lists.{text_of}
-use Rattle.dump_text.specs.declared.lists.Lists.{Lists}
+use Rattle.dump_text.specs.declared.entries.Lists.{Lists}
 use Rattle.dump_text.specs.declared.fault.LoadFault.{LoadFault}
 use Rattle.dump_text.specs.declared.fault.LoadFault.TheVariants.{Syntax, Graph, Limits, Memory}
 

@@ -1,7 +1,7 @@
 ghost use Rattle.dump_text.specs.Reading.{Checks};
 
+use crate::entries::Lists;
 use crate::fault::LoadFault;
-use crate::lists::Lists;
 use crate::reading::read_text;
 use crate::testing::is_graph_text;
 use std::alloc::Global;

@@ -9,8 +9,8 @@
 #![tactic(auto)]
 
 mod checked;
+mod entries;
 mod fault;
-mod lists;
 mod reading;
 mod sink;
 mod sorting;
@@ -18,7 +18,7 @@ mod testing;
 mod writing;
 
 pub use checked::read_lists;
+pub use entries::{Edge, Lists, Tx};
 pub use fault::LoadFault;
-pub use lists::{Edge, Lists, Tx};
 pub use sorting::{sort_edges, sort_txs};
 pub use writing::write_lists;

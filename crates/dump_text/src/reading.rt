@@ -4,8 +4,8 @@ ghost use Rattle.graph_model.specs.Dumps.{dump_bytes};
 ghost use Rattle.dump_text.specs.Lists.{text_of};
 ghost use Rattle.dump_text.specs.Reading.{Confirms, Reads};
 
+use crate::entries::Lists;
 use crate::fault::LoadFault;
-use crate::lists::Lists;
 use crate::writing::write_lists;
 use outside::NoMemory;
 use std::alloc::Global;

@@ -2,7 +2,7 @@
 ghost use Rattle.std.specs.List.Sorted.{IsNonDecreasingBy, IsPermutation};
 ghost use Rattle.dump_text.specs.Sorting.{NoneFalls};
 
-use crate::lists::{Edge, Tx};
+use crate::entries::{Edge, Tx};
 
 /// Puts transactions into the order of their names. Takes no memory.
 pub fn sort_txs(txs: &mut Vec<Tx>)

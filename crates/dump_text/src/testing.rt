@@ -13,7 +13,7 @@ ghost use Rattle.links.specs.Links.{AreInRange};
 ghost use Rattle.dump_text.specs.Lists.{text_of};
 ghost use Rattle.dump_text.specs.Testing.{AreCovers, AreInOrder, AreLinksOf, IsBefore, StandsAlone};
 
-use crate::lists::{Edge, Lists, Tx};
+use crate::entries::{Edge, Lists, Tx};
 use certificate::is_graph;
 use fee_rate::{is_fee, is_size};
 use graph_model::TxId;

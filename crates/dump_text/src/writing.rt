@@ -4,7 +4,7 @@ ghost use Rattle.graph_model.specs.Dumps.{dump_bytes};
 ghost use Rattle.graph_model.specs.Words.{line_text};
 ghost use Rattle.dump_text.specs.Lines.{edge_line_of, tx_line_of};
 
-use crate::lists::{Edge, Lists, Tx};
+use crate::entries::{Edge, Lists, Tx};
 use crate::sink::TextSink;
 use outside::Failed;
 use std::alloc::Global;
