@@ -154,7 +154,7 @@ module _ (most : ℕ) (limits : Limits) (text : DumpText) (types : HasDumpTypes 
   is_made old new stands none leads counted =
       let (next, now, both) = leads (start_within most limits) stands in (
         fits most (bounds_of limits) text types is small next.plain both.0 now.plain.valid.main.within,
-        (next, record { plain = both.0; picks = both.1.picks }, now, counted ∙ ap (λ n. n + length text.txs) none),
+        (next, record { plain = both.0; picks = both.1.picks }, now, omega (arith, counted, none)),
       )
 
   none_over : (why : Refusal) → BringsOver (start_within most limits).plain text.txs text.edges why → FitsBounds (bounds_of limits) text → ⊥

@@ -1,20 +1,12 @@
--- What was read of bytes and made of it is what loading answers.
+-- What is made of a graph's text is what loading answers.
 use Rattle.std.proofs.Common.{List, ℕ}
 use Rattle.std.specs.Prelude.{Result, Ok, Err, MatchResult}
 use Rattle.graph_model.specs.Dumps.{DumpText, Dumps, IsGraphText}
 use Rattle.graph_model.specs.Limits.{Bounds}
 use Rattle.tx_graph.specs.Kept.{Kept}
-use Rattle.dump_text.specs.Lists.{text_of}
-use Rattle.dump_text.specs.Reading.{Checks}
 use Rattle.dump_text.specs.declared.fault.LoadFault.{LoadFault}
 use Rattle.dump_text.specs.declared.fault.LoadFault.TheVariants.{Syntax, Graph, Limits, Memory}
 use Rattle.dump.specs.Loading.{FitsAndIsMade, LoadGives, MakesNone}
-
-pub refused : (most : ℕ) (bounds : Bounds) (bytes : List ℕ) (fault : LoadFault) → Checks bytes (Err fault) → LoadGives most bounds bytes (Err fault)
-refused most bounds bytes Syntax none = none
-refused most bounds bytes Graph none = none
-refused most bounds bytes Limits never = absurd never
-refused most bounds bytes Memory lacks = tt
 
 pub made : (most : ℕ) (bounds : Bounds) (bytes : List ℕ) (text : DumpText) (answer : Result Kept LoadFault) → Dumps bytes text → IsGraphText text
     → MatchResult answer (FitsAndIsMade most bounds text) (MakesNone bounds text) → LoadGives most bounds bytes answer

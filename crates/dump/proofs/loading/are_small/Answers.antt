@@ -5,3 +5,7 @@ use Rattle.dump.proofs.loading.are_small.Goals as goal
 
 pub returns : goal.returns
 returns c = small_all (bounds_of c.args.limits.now) c.args.txs.now (omega arith) (λ k low. c.loop-tx.invariant k (omega arith))
+
+pub returns-then-tx-limits : goal.returns-then-tx-limits
+returns-then-tx-limits c small =
+    let fits = small_at (bounds_of c.args.limits.now) c.args.txs.now c.loop-tx.tx-index small c.loop-tx-test.true in omega (arith, fits, c.if-tx-limits.true)

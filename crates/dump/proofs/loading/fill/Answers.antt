@@ -1,9 +1,10 @@
 use Rattle.std.proofs.Common.{◌≡◌, ◌+◌, ◌*◌, [], length, lit<, sym, ap, subst, subst₂, ◌∙◌, arith}
 use Rattle.graphs.specs.Certificates.{Txs}
-use Rattle.tx_graph.specs.Restored.{MayRestore, RestoresSet}
-use Rattle.tx_graph.specs.Kept.{Leads}
+use Rattle.graph_model.specs.declared.names.Refusal.TheVariants.{ClusterSize, Count, Memory}
+use Rattle.tx_graph.specs.Restored.{MayRestore, RestoreRefusalIs, RestoresSet}
+use Rattle.tx_graph.specs.Kept.{Leads, start_within}
 use Rattle.dump_text.specs.Lists.{text_of}
-use Rattle.dump.proofs.Filled.{begins, empty_of, is_made, may_restore}
+use Rattle.dump.proofs.Filled.{begins, empty_of, fits_not, is_made, may_restore}
 use Rattle.dump.proofs.loading.fill.Goals as goal
 
 pub returns-then-len-eq0 : goal.returns-then-len-eq0
@@ -30,3 +31,19 @@ returns-in-Ok g c =
     c.requires.none
     (subst₂ (λ (ts : Txs) (es : _). Leads old new (RestoresSet ts es)) c.as_slice.ensures.value c.as_slice-2.ensures.value c.in-Ok.ensures.restores)
     (c.in-Ok.ensures.additions ∙ ap (λ (ts : Txs). old.levels.issued + length ts) c.as_slice.ensures.value)
+
+pub returns-in-Err-Count : goal.returns-in-Err-Count
+returns-in-Err-Count g c =
+    let limits = c.args.graph.now.levels.limits in
+    let row = c.in-Err-Count.ensures.row (start_within (64 * g.row.W) limits) c.requires.start in
+    fits_not (64 * g.row.W) limits (text_of c.args.lists.now) c.requires.types c.requires.text c.requires.small row.0 c.in-Err-Count.field-0
+    (subst₂ (λ (ts : Txs) (es : _). RestoreRefusalIs (start_within (64 * g.row.W) limits).plain ts es row.0) c.as_slice.ensures.value c.as_slice-2.ensures.value row.1)
+    row.2 (λ lacks. let bad : Count c.in-Err-Count.field-0-0 ≡ Memory = sym c.in-Err-Count.field-0-is ∙ lacks in cc)
+
+pub returns-in-Err-ClusterSize : goal.returns-in-Err-ClusterSize
+returns-in-Err-ClusterSize g c =
+    let limits = c.args.graph.now.levels.limits in
+    let row = c.in-Err-ClusterSize.ensures.row (start_within (64 * g.row.W) limits) c.requires.start in
+    fits_not (64 * g.row.W) limits (text_of c.args.lists.now) c.requires.types c.requires.text c.requires.small row.0 c.in-Err-ClusterSize.field-0
+    (subst₂ (λ (ts : Txs) (es : _). RestoreRefusalIs (start_within (64 * g.row.W) limits).plain ts es row.0) c.as_slice.ensures.value c.as_slice-2.ensures.value row.1)
+    row.2 (λ lacks. let bad : ClusterSize c.in-Err-ClusterSize.field-0-0 ≡ Memory = sym c.in-Err-ClusterSize.field-0-is ∙ lacks in cc)
