@@ -11,9 +11,13 @@
 #![tactic(auto)]
 
 mod dumping;
+mod fault;
 mod listing;
+mod loading;
 mod sink;
 mod sorting;
 mod writing;
 
 pub use dumping::{DumpText, text};
+pub use fault::LoadFault;
+pub use loading::load;
