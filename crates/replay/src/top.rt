@@ -158,7 +158,10 @@ fn refuse_words<K: Sink>(sink: &mut K) -> Status
     ensures refuses { Refuses result K.written sink.old sink.new }
     ensures faults { (reads : ℕ) → StatusFaults result reads reads (K.faults sink.old) (K.faults sink.new) }
 {
-    match write_word(sink, "usage: txgraph replay | check | load | gen SEED COUNT") {
+    match write_word(
+        sink,
+        "usage: txgraph replay | check | load | gen SEED COUNT",
+    ) {
         Ok(()) => Status::Usage,
         Err(Failed) => Status::WriteFault,
     }
