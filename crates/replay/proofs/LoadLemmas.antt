@@ -69,7 +69,7 @@ module _ {K : Type 0} (written : K → Option (List ℕ)) (old new : K) (bytes :
       → ((out : List ℕ) → IsSo out → LoadWrites MOST_NAMES default_limits (dumps.Loads text) out)
       → Tells statuses.Done status IsSo (written old) (written new) → LoadsBytes status bytes written old new
   told_loaded status text IsSo finds writes (out, is, inl done) =
-      subst (λ (s : Status). LoadsBytes s bytes written old new) (sym done.0) (text, out, record { finds = finds; writes = writes out is }, done.1)
+      subst (λ (s : Status). LoadsBytes s bytes written old new) (sym done.0) (text, (out, record { finds = finds; writes = writes out is }, done.1))
   told_loaded status text IsSo finds writes (out, is, inr fault) =
       subst (λ (s : Status). LoadsBytes s bytes written old new) (sym fault.0)
       (dumps.Loads text, out, record { finds = finds; writes = writes out is }, fault.1)
@@ -79,7 +79,7 @@ module _ {K : Type 0} (written : K → Option (List ℕ)) (old new : K) (bytes :
       → Tells statuses.No status (λ text. text ≡ line) (written old) (written new) → LoadsBytes status bytes written old new
   told_refused status finding line refused finds writes (out, is, inl done) =
       let answer : IsAnswer bytes finding out = record { finds = finds; writes = subst (LoadWrites MOST_NAMES default_limits finding) (sym is) writes } in
-      subst (λ (s : Status). LoadsBytes s bytes written old new) (sym done.0) (finding, refused, out, answer, done.1)
+      subst (λ (s : Status). LoadsBytes s bytes written old new) (sym done.0) (finding, refused, (out, answer, done.1))
   told_refused status finding line refused finds writes (out, is, inr fault) =
       let answer : IsAnswer bytes finding out = record { finds = finds; writes = subst (LoadWrites MOST_NAMES default_limits finding) (sym is) writes } in
       subst (λ (s : Status). LoadsBytes s bytes written old new) (sym fault.0) (finding, out, answer, fault.1)
