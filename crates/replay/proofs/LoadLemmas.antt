@@ -94,3 +94,7 @@ module _ {K : Type 0} (written : K → Option (List ℕ)) (old new : K) (bytes :
   read_loaded statuses.WriteFault left_old left_new read is = (bytes, read, is)
   read_loaded statuses.NoMemory left_old left_new read is = is
   read_loaded statuses.InputLimit left_old left_new read is = absurd is
+
+  -- where there was no memory nothing was written
+  pub unwritten : (status : Status) → LoadsBytes status bytes written old new → status ≡ statuses.NoMemory → new ≡ old
+  unwritten status is none = subst (λ (s : Status). LoadsBytes s bytes written old new) none is
