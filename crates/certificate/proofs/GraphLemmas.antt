@@ -7,8 +7,8 @@ use Rattle.std.proofs.lemmas.List.Elements.{Contains-get_or}
 use Rattle.lists.specs.Distinct.{AreDistinct}
 use Rattle.fee_rate.specs.declared.limits.TheConstants.{MAX_TOTAL}
 use Rattle.fee_rate.specs.Limits.{IsFee, IsSize}
-use Rattle.graphs.specs.Graphs.{HasNoCycle}
-use Rattle.graphs.specs.Certificates.{Txs, HasGraph}
+use Rattle.graphs.specs.Graphs.{HasNoCycle, IsGraph}
+use Rattle.graphs.specs.Certificates.{Txs, HasGraph, graph_of}
 use Rattle.certificate.specs.Places.{ArePlaces, ArePairs, AreOf}
 use Rattle.certificate.specs.Tables.{names_of, AreInLimits}
 use Rattle.certificate.proofs.PlaceLemmas.{places_distinct}
@@ -38,18 +38,17 @@ pairs_acyclic names edges pairs p n = no_cycle_placed names pairs (subst HasNoCy
 pub ends_are_names : (names : List ℕ) (edges pairs : List (ℕ × ℕ)) → ArePairs names edges pairs → AreOf names edges
 ends_are_names names edges pairs p a b here = ends_named names pairs a b p.within (subst (λ l. Contains {X = ℕ × ℕ} l (a, b)) p.same here)
 
-pub is_graph : (txs : Txs) (find : ℕ → Option ℕ) (edges pairs : List (ℕ × ℕ)) → AreInLimits txs → ArePlaces (names_of txs) find
-    → ArePairs (names_of txs) edges pairs → AreDistinct edges → HasNoCycle pairs → HasGraph txs edges
-is_graph txs find edges pairs l h p d n = record {
-  few = l.few;
-  limits = l.limits;
-  graph = record {
-    names = places_distinct (names_of txs) find h;
-    pairs = d;
-    ends = ends_are_names (names_of txs) edges pairs p;
-    acyclic = edges_acyclic (names_of txs) find edges pairs h p n;
-  };
+pub is_graph : (txs : Txs) (find : ℕ → Option ℕ) (edges pairs : List (ℕ × ℕ)) → ArePlaces (names_of txs) find
+    → ArePairs (names_of txs) edges pairs → AreDistinct edges → HasNoCycle pairs → IsGraph (graph_of txs edges)
+is_graph txs find edges pairs h p d n = record {
+  names = places_distinct (names_of txs) find h;
+  pairs = d;
+  ends = ends_are_names (names_of txs) edges pairs p;
+  acyclic = edges_acyclic (names_of txs) find edges pairs h p n;
 }
+
+pub graph_in_limits : (txs : Txs) (edges : List (ℕ × ℕ)) → AreInLimits txs → IsGraph (graph_of txs edges) → HasGraph txs edges
+graph_in_limits txs edges l g = record { few = l.few; limits = l.limits; graph = g }
 
 -- ---- limits
 pub limits_all : (txs : Txs) → length txs ≤ MAX_TOTAL

@@ -1,6 +1,7 @@
-ghost use Rattle.std.specs.Prelude.{length, IfOk, IfErr, MatchBool};
+ghost use Rattle.std.specs.Prelude.{length, IfOk, IfErr, MatchBool, MatchOption};
 ghost use Rattle.lists.specs.Distinct.{AreDistinct};
-ghost use Rattle.graphs.specs.Certificates.{HasGraph};
+ghost use Rattle.graphs.specs.Certificates.{HasGraph, graph_of};
+ghost use Rattle.graphs.specs.Graphs.{IsGraph};
 ghost use Rattle.fee_rate.specs.Limits.{IsFee, IsSize};
 ghost use Rattle.certificate.specs.declared.fault.CheckFault.TheVariants.{Graph};
 ghost use Rattle.certificate.specs.Faults.{Says};
@@ -36,6 +37,27 @@ impl Tables {
     }
 }
 
+/// Whether what is written is a graph: each name and each edge stands once, edges are of the names, and no walk along edges leads back.
+///
+/// Neither fees nor sizes matter, nor how many transactions there are. The time is near-linear in the length of what is written.
+///
+/// # Errors
+///
+/// Fails where there is no memory.
+pub fn is_graph(
+    alloc: Global,
+    txs: &[(TxId, i64, u64)],
+    edges: &[(TxId, TxId)],
+) -> Result<bool, AllocError>
+    ensures { IfOk result (λ yes. MatchBool yes (IsGraph (graph_of txs.now edges.now))
+        (IsGraph (graph_of txs.now edges.now) → ⊥)) }
+{
+    match tables_of(alloc, txs, edges)? {
+        Some(_) => Ok(true),
+        None => Ok(false),
+    }
+}
+
 /// Whether what is written is a graph within the limits.
 pub(crate) fn check_graph(
     alloc: Global,
@@ -49,22 +71,37 @@ pub(crate) fn check_graph(
     if !are_in_limits(txs) {
         return Err(CheckFault::Graph);
     }
+    match tables_of(alloc, txs, edges)? {
+        Some(tables) => Ok(tables),
+        None => Err(CheckFault::Graph),
+    }
+}
+
+/// The tables of what is written, or none where it is no graph.
+fn tables_of(
+    alloc: Global,
+    txs: &[(TxId, i64, u64)],
+    edges: &[(TxId, TxId)],
+) -> Result<Option<Tables>, AllocError>
+    ensures { IfOk result (λ found. MatchOption found (IsGraph (graph_of txs.now edges.now) → ⊥)
+        (λ tables. IsGraph (graph_of txs.now edges.now) × AreTables txs.now edges.now tables)) }
+{
     let mut tables = Tables::with_room(alloc, txs.len(), edges.len())?;
     if !are_listed(&mut tables, txs, edges) {
-        return Err(CheckFault::Graph);
+        return Ok(None);
     }
     let acyclic = is_acyclic(alloc, txs.len(), tables.pairs.as_slice())?;
     if !acyclic {
-        return Err(CheckFault::Graph);
+        return Ok(None);
     }
-    Ok(tables)
+    Ok(Some(tables))
 }
 
 /// Fills empty tables that have the room. Whether names and edges stand once, and edges are of transactions.
 fn are_listed(tables: &mut Tables, txs: &[(TxId, i64, u64)], edges: &[(TxId, TxId)]) -> bool
     requires { HaveRoom (length txs.now) (length edges.now) tables.old }
     ensures { MatchBool result (AreDistinct edges.now × AreTables txs.now edges.now tables.new)
-        (HasGraph txs.now edges.now → ⊥) }
+        (IsGraph (graph_of txs.now edges.now) → ⊥) }
 {
     take_places(&mut tables.names, txs)
         && take_ends(&mut tables.pairs, &tables.names, edges)

@@ -19,4 +19,5 @@ mod owned;
 
 pub use checker::check;
 pub use fault::CheckFault;
+pub use graph::is_graph;
 pub use owned::{EdgeList, FlowList, Part, PartList, TxList, Written};

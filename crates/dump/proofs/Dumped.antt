@@ -26,8 +26,9 @@ use Rattle.graph_model.specs.Steps.{Step, Accepts, KeepsPicks}
 use Rattle.graph_model.specs.Validity as validity
 use Rattle.levels.specs.Levels.{IsWithin}
 use Rattle.tx_graph.specs.Kept.{Kept, StandsFor, StandsPlainly, MakesStep, IsPickOf}
-use Rattle.dump.specs.Listings.{AreListed, NoneFalls, tx_at}
-use Rattle.dump.proofs.Rising.{distinct_moved, edges_rise, numbers_rise}
+use Rattle.dump_text.specs.Sorting.{NoneFalls}
+use Rattle.dump.specs.Listings.{AreListed, tx_at}
+use Rattle.dump_text.proofs.Rising.{distinct_moved, edges_rise, numbers_rise}
 
 -- transactions of which each is told by its name
 told_by : (f : ℕ → ℕ × ℤ × ℕ) (txs : Txs) → ((tx : ℕ × ℤ × ℕ) → Contains txs tx → tx ≡ f tx.0) → txs ≡ map f (ids_of txs)

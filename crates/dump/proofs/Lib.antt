@@ -1,5 +1,5 @@
 mod Dumped
+mod Filled
 mod Listed
-mod Rising
 mod Rooms
 mod Walking

@@ -1,10 +1,9 @@
 -- The transactions and the edges of a level, as they are collected for its text.
-use Rattle.std.specs.Prelude.{◌≡◌, ◌↔◌, ◌⊎◌, ℕ, ℤ, ◌<◌, ◌≤◌, List, length, map, flat_map, slice_index_or, Contains}
+use Rattle.std.specs.Prelude.{◌≡◌, ◌↔◌, ℕ, ℤ, List, map, flat_map, Contains}
 use Rattle.lists.specs.Distinct.{AreDistinct}
 use Rattle.graphs.specs.Certificates.{Txs}
 use Rattle.graphs.specs.Closures.{Closure, rate_of, IsCover}
 use Rattle.graph_model.specs.Answers.{order_of}
-use Rattle.graph_model.specs.Texts.{tx_line, edge_line}
 use Rattle.cluster.specs.Clusters.{Cluster}
 use Rattle.cluster.specs.Covers.{ListsInOrder}
 use Rattle.levels.specs.Levels.{OneLevel}
@@ -28,18 +27,3 @@ pub record AreListed (level : OneLevel) (ids : List ℕ) (txs : Txs) (edges : Li
   pub txs_are : txs ≡ map (tx_at level.graph) ids
   pub covers : (a d : ℕ) → Contains edges (a, d) ↔ (Contains ids d × IsCover level.graph a d)
   pub once : AreDistinct edges
-
--- of two edges the first has the lesser child, or the same child and no greater parent
-abbrev pub IsNoLater : ℕ × ℕ → ℕ × ℕ → Type 0
-IsNoLater a b = (a.1 < b.1) ⊎ ((a.1 ≡ b.1) × (a.0 ≤ b.0))
-
--- no edge stands behind one that is to follow it
-abbrev pub NoneFalls : List (ℕ × ℕ) → Type 0
-NoneFalls edges = (i j : ℕ) (d : ℕ × ℕ) → i < j → j < length edges → IsNoLater (slice_index_or edges i d) (slice_index_or edges j d)
-
--- the lines of a transaction and of an edge
-abbrev pub tx_line_of : ℕ × ℤ × ℕ → List ℕ
-tx_line_of tx = tx_line tx.0 tx.1 tx.2
-
-abbrev pub edge_line_of : ℕ × ℕ → List ℕ
-edge_line_of edge = edge_line edge.0 edge.1

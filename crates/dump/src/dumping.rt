@@ -4,8 +4,7 @@ ghost use Rattle.levels.specs.Levels.{IsWithin};
 ghost use Rattle.dump.specs.Replies.{MakesDump, DumpsTo};
 
 use crate::listing::list_main;
-use crate::sorting::{sort_edges, sort_txs};
-use crate::writing::write_lists;
+use dump_text::{sort_edges, sort_txs, write_lists};
 use graph_model::{Level, Refusal};
 use graphs::Owned;
 use outside::NoMemory;

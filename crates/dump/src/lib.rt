@@ -11,13 +11,9 @@
 #![tactic(auto)]
 
 mod dumping;
-mod fault;
 mod listing;
 mod loading;
-mod sink;
-mod sorting;
-mod writing;
 
+pub use dump_text::LoadFault;
 pub use dumping::{DumpText, text};
-pub use fault::LoadFault;
 pub use loading::load;

@@ -6,23 +6,11 @@ ghost use Rattle.graph_model.specs.Answers.{order_of};
 ghost use Rattle.levels.specs.Levels.{OneLevel, IsWithin};
 ghost use Rattle.dump.specs.Listings.{AreListed, Tells};
 
+use dump_text::{Edge, Lists};
 use graph_model::{Level, TxId};
 use outside::NoMemory;
 use std::alloc::Global;
 use tx_graph::{Component, Covers, TxGraph};
-
-/// A transaction: its name, its fee in satoshis, and its size in virtual bytes.
-pub(crate) type Tx = (TxId, i64, u64);
-
-/// A dependency that no others imply: the parent, and the child.
-pub(crate) type Edge = (TxId, TxId);
-
-/// Transactions and edges.
-#[derive(Drop)]
-pub(crate) struct Lists {
-    pub(crate) txs: Vec<Tx>,
-    pub(crate) edges: Vec<Edge>,
-}
 
 /// Adds the edges from some parents to a child.
 fn add_parents<const W: usize>(

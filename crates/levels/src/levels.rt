@@ -332,7 +332,8 @@ impl<const W: usize> Levels<W> {
     ///
     /// Refused with `Count`, else `ClusterSize`, where no dependency may pass the limits and a cluster would be over them: of the first
     /// transaction of which that is so it tells the number of the cluster's names where that is over, and else their total size. Refused
-    /// with `Memory` where there is none, also in place of those. All stays as it was then.
+    /// with `Memory` where there is none, also in place of those. All stays as it was then, and where it isn't for memory the solver
+    /// takes no step.
     pub fn restore<L: Ledger>(
         &mut self,
         txs: &[(TxId, i64, u64)],
@@ -346,7 +347,7 @@ impl<const W: usize> Levels<W> {
             (λ _. self.old.limits.defer ≡ false → BringsNoneOver self.old.limits self.old.main.graph txs.now pairs.now)
             (λ why. why ≢ Memory → BringsOver self.old.limits self.old.main.graph txs.now pairs.now why) }
         ensures kept { KeepsPicks self.old self.new }
-        ensures err { OnErr result (self.new ≡ self.old) }
+        ensures refused { IfErr result (λ why. (self.new ≡ self.old) × (why ≢ Memory → steps.new ≡ steps.old)) }
         ensures steps { RestoresWithin self.old.limits self.old.main.graph txs.now pairs.now steps.old steps.new }
     {
         restore(

@@ -1,5 +1,5 @@
 //! Transactions that come into the top level with dependencies, all in one change.
-ghost use Rattle.std.specs.Prelude.{◌≡◌, ◌≢◌, ◌⊎◌, ◌↔◌, ℕ, ◌+◌, ◌-◌, ◌^◌, ◌≤◌, false, true, None, Some, List, [], length, nat_eq, Contains, IfOk, OnOk, OnErr, IsSome, MatchResult};
+ghost use Rattle.std.specs.Prelude.{◌≡◌, ◌≢◌, ◌⊎◌, ◌↔◌, ℕ, ◌+◌, ◌-◌, ◌^◌, ◌≤◌, false, true, None, Some, List, [], length, nat_eq, Contains, IfErr, IfOk, OnOk, OnErr, IsSome, MatchResult};
 ghost use Rattle.std.specs.FinMap as finmap;
 ghost use Rattle.std.specs.FinSet as set;
 ghost use Rattle.std.specs.HashSet as bag;
@@ -67,6 +67,7 @@ pub(crate) fn restore<const W: usize, L: Ledger>(
         (λ why. why ≢ Memory → BringsOver shelves.old.limits (graph_of (view_of Top shelves.old)) txs.now pairs.now why) }
     ensures err { OnErr result ((shelves.new ≡ shelves.old) × (set.len rings.new.book.names ≡ set.len rings.old.book.names)
         × (rings.new.book.issued ≡ rings.old.book.issued)) }
+    ensures refused { IfErr result (λ why. why ≢ Memory → steps.new ≡ steps.old) }
     ensures steps { RestoresWithin shelves.old.limits (graph_of (view_of Top shelves.old)) txs.now pairs.now steps.old steps.new }
 {
     if rings.reserve(txs.len()).is_err() {
@@ -109,6 +110,7 @@ impl<const W: usize> Shelves<W> {
         ensures row { MatchResult result
             (λ _. self.now.limits.defer ≡ false → BringsNoneOver self.now.limits (graph_of (view_of Top self.now)) txs.now pairs.now)
             (λ why. why ≢ Memory → BringsOver self.now.limits (graph_of (view_of Top self.now)) txs.now pairs.now why) }
+        ensures refused { IfErr result (λ why. why ≢ Memory → steps.new ≡ steps.old) }
         ensures steps { RestoresWithin self.now.limits (graph_of (view_of Top self.now)) txs.now pairs.now steps.old steps.new }
     {
         let Ok(found) = self.gathered(txs, pairs) else {

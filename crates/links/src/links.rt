@@ -1,4 +1,4 @@
-ghost use Rattle.std.specs.Prelude.{◌≡◌, ◌↔◌, ℕ, ◌++◌, not, map, Contains, IsTrue, IfOk};
+ghost use Rattle.std.specs.Prelude.{◌≡◌, ◌↔◌, ℕ, ◌<◌, ◌++◌, not, length, map, slice_index, Contains, IsTrue, IfOk};
 ghost use Rattle.std.specs.List.{filter};
 ghost use Rattle.lists.specs.Distinct.{AreDistinct};
 ghost use Rattle.fee_rate.specs.Limits.{IsFee};
@@ -171,6 +171,19 @@ impl Links {
         let _walker = &self.walker;
         let _listed = &self.listed;
         self.pairs.as_slice()
+    }
+
+    /// Where a name of these links stands among the transactions. Takes no memory.
+    pub fn position(&self, id: TxId) -> usize
+        requires { Has self.now id }
+        ensures within { result < length self.now.txs }
+        ensures here { slice_index (names_of self.now.txs) result ≡ id }
+    {
+        let _txs = &self.txs;
+        let _pairs = &self.pairs;
+        let _walker = &self.walker;
+        let _listed = &self.listed;
+        place_of(&self.maps.places, id)
     }
 
     /// Whether `a` is an ancestor of `b`. Both are names of these links, and each is an ancestor of itself. Takes no memory.

@@ -19,7 +19,7 @@ use crate::joining::{are_over, joined_over};
 use crate::kept::{Kept, Unordered};
 use crate::leaving::{all_within, split_up};
 use crate::listing::{Listing, lacks_over, lacks_within};
-use crate::solving::{ordered, place_of};
+use crate::solving::ordered;
 use component::{Component, Work};
 use fee_rate::FeeRate;
 use graph_model::Limits;
@@ -227,14 +227,14 @@ impl<const W: usize> Record<W> {
         }
     }
 
-    /// The fee of a name, in satoshis, and its size, in virtual bytes.
+    /// The fee of a name, in satoshis, and its size, in virtual bytes. A record without an order looks the name up once.
     pub fn rate(&self, id: TxId) -> FeeRate
         requires { Contains self.now.names id }
         ensures { result ≡ rate_of self.now.graph id }
     {
         match &self.kept {
             Kept::Within(component) => component.rate(id),
-            Kept::Over(over) => self.rate_at(place_of(over.names.as_slice(), id)),
+            Kept::Over(over) => self.rate_at(over.links.position(id)),
         }
     }
 

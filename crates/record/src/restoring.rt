@@ -66,7 +66,7 @@ impl<const W: usize> Record<W> {
         ensures split { IfOk result (λ all. IsSplit (closure links.now) [] all.items) }
         ensures fitted { IfOk result (λ all. All (IsFitted (64 * W) limits.now) all.items) }
         ensures within { IfOk result (λ all. limits.now.defer ≡ false → BringsNoneOver limits.now links.now) }
-        ensures over { IfErr result (λ why. why ≢ Memory → BringsOver limits.now links.now why) }
+        ensures over { IfErr result (λ why. why ≢ Memory → BringsOver limits.now links.now why × (steps.new ≡ steps.old)) }
         ensures steps { GrowsFor limits.now (closure links.now) [] steps.old steps.new }
     {
         let _txs = links.txs();

@@ -117,7 +117,8 @@ impl Reorg {
     /// whose child is then in main. The block goes. Answers the transactions in the order in which they were listed.
     ///
     /// As many additions can be counted as the block has transactions ([`latest_count`](Reorg::latest_count)). The solver takes at most
-    /// the sum of 2·(n+2)^5 steps over the clusters of n transactions that are made and are within the limits.
+    /// the sum of 2·(n+2)^5 steps over the clusters of n transactions that are made and are within the limits. It takes none where the
+    /// call is refused for another reason than memory.
     ///
     /// # Errors
     ///
@@ -143,6 +144,7 @@ impl Reorg {
         ensures stays { AllStay graph.old.levels graph.new.levels }
         ensures additions { graph.new.levels.issued
             ≡ graph.old.levels.issued + (if is_ok result then length (latest_ids self.old) else 0) }
+        ensures refused { IfErr result (λ why. why ≢ Memory → steps.new ≡ steps.old) }
         ensures steps { RestoresWithin graph.old.levels.limits graph.old.levels.main.graph (latest_of self.old).txs
             (latest_of self.old).pairs steps.old steps.new }
     {

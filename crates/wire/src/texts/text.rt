@@ -21,12 +21,11 @@ use std::alloc::Global;
 /// `Syntax` where no text has these lines. `Memory` where memory ran out, which may come in place of
 /// either other answer. Nothing is changed.
 pub fn read_certificate(alloc: Global, bytes: &[u8]) -> Result<CertText, TextFault>
-    requires { length bytes.now ≤ max_input }
     ensures text { IfOk result
         (λ text. (lines : List (List ℕ)) (rest : List ℕ) → Cut bytes.now lines rest
         → IsText (with_last lines rest) (text_of text)) }
     ensures types { IfOk result (λ text. HasTextTypes (text_of text)) }
-    ensures amounts { IfOk result (λ text. amount_of (text_of text) < 2 ^ 127) }
+    ensures amounts { length bytes.now ≤ max_input → IfOk result (λ text. amount_of (text_of text) < 2 ^ 127) }
     ensures syntax { IsErrOf result Syntax → (lines : List (List ℕ)) (rest : List ℕ) → Cut bytes.now lines rest
         → (text : Text) → IsText (with_last lines rest) text → ⊥ }
 {

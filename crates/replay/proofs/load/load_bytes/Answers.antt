@@ -1,6 +1,6 @@
 use Rattle.std.proofs.Common.{codes, refl, subst, arith}
 use Rattle.std.specs.declared.result.Result.TheVariants.{Err}
-use Rattle.dump.specs.declared.fault.LoadFault.{LoadFault}
+use Rattle.dump_text.specs.declared.fault.LoadFault.{LoadFault}
 use Rattle.dump.specs.Loading.{LoadGives}
 use Rattle.graph_model.specs.Dumps as dumps
 use Rattle.graph_model.specs.Limits.{default_limits}
@@ -14,7 +14,7 @@ load_unpaid-requires g c = record { name = refl; parts = refl; some = omega (ari
 
 pub returns-in-Ok-clause-loads : goal.returns-in-Ok-clause-loads
 returns-in-Ok-clause-loads g c =
-    let (text, state, finds, loads, stands) = c.in-Ok.ensures.loads in
+    let (text, state, finds, loads, stands, issued) = c.in-Ok.ensures.loads in
     told_loaded g.K.Sink.written c.args.sink.now c.prove-status.new.sink c.args.bytes.now c.prove-status.result text _ finds
     (λ out (answer, is, told). proof_writes _ MOST_NAMES default_limits text state answer out loads stands is told) c.prove-status.ensures.tells
 

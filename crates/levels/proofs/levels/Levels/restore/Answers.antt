@@ -66,6 +66,12 @@ returns-in_err-restore-clause-kept g c = (
       (ap (λ (s : Shelf). levels_of s c.self.inside.issued) c.in_err-restore.ensures.err.0 ∙ c.self.view_is),
 )
 
+pub returns-in_err-restore-clause-refused : goal.returns-in_err-restore-clause-refused
+returns-in_err-restore-clause-refused g c =
+    let same = ap (λ (s : Shelf). levels_of s c.self.inside.issued) c.in_err-restore.ensures.err.0 ∙ c.self.view_is in
+    handed (λ _. Unit {0}) (λ why. (levels_of c.restore.new.shelves c.self.inside.issued ≡ c.args.self.now) × (why ≢ Memory → c.restore.new.steps ≡ c.args.steps.now))
+    c.from_residual.result c.in_err-restore.field-0.0 c.from_residual.ensures.1 (same, c.in_err-restore.ensures.refused)
+
 pub returns-in_err-restore-clause-steps : goal.returns-in_err-restore-clause-steps
 returns-in_err-restore-clause-steps g c =
     let now = c.args.self.now in

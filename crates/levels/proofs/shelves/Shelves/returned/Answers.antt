@@ -43,7 +43,7 @@ returns-in_err-news-clause-row g c =
     c.in_err-news.field-0.0 c.from_residual.ensures.1
     (λ other. brings_over g.row.W shelf c.requires.order c.args.txs.now c.args.pairs.now c.requires.may c.in-Ok.found.outs.items c.in-Ok.found.links c.in-Ok.ensures
     shelf.limits c.in_err-news.field-0.0
-    (subst (λ (l : Limits). restoring.BringsOver l c.in-Ok.found.links c.in_err-news.field-0.0) limits (c.in_err-news.ensures.over other)))
+    (subst (λ (l : Limits). restoring.BringsOver l c.in-Ok.found.links c.in_err-news.field-0.0) limits (c.in_err-news.ensures.over other).0))
 
 pub returns-in_err-news-clause-steps : goal.returns-in_err-news-clause-steps
 returns-in_err-news-clause-steps g c =
@@ -52,6 +52,11 @@ returns-in_err-news-clause-steps g c =
     shelf.limits c.args.steps.now c.all_of.new.steps
     (subst (λ (l : Limits). GrowsFor l (closure c.in-Ok.found.links) [] c.args.steps.now c.all_of.new.steps) (ap (λ (s : Shelf). s.limits) c.self.view_is)
     c.all_of.ensures.steps)
+
+pub returns-in_err-news-clause-refused : goal.returns-in_err-news-clause-refused
+returns-in_err-news-clause-refused g c =
+    handed (λ _. Unit {0}) (λ why. why ≢ Memory → c.all_of.new.steps ≡ c.args.steps.now) c.from_residual.result c.in_err-news.field-0.0 c.from_residual.ensures.1
+    (λ other. (c.in_err-news.ensures.over other).1)
 
 pub returns-clause-row : goal.returns-clause-row
 returns-clause-row g c strict =

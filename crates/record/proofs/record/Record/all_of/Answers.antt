@@ -1,5 +1,5 @@
 -- The records of the components, none of which is over the limits where none may be.
-use Rattle.std.proofs.Common.{ℕ, List, [], lit<, length, sym, subst}
+use Rattle.std.proofs.Common.{ℕ, List, [], lit<, length, refl, sym, subst}
 use Rattle.std.specs.Prelude.{All, Contains}
 use Rattle.links.specs.Links.{Links, AreLinks}
 use Rattle.record.specs.Leaving.{IsOneComponent}
@@ -20,9 +20,11 @@ pub returns-in-Some-clause-over : goal.returns-in-Some-clause-over
 returns-in-Some-clause-over g c lacks =
     let parts = c.in-Ok.parts.items in
     let each : (part : Links) → Contains parts part → AreLinks part =
-    λ part here. c.read_all.ensures part (subst (λ (ps : List Links). Contains ps part) (sym c.as_slice.ensures.value) here) in
-    brings_over c.args.links.now parts c.txs-txs.ensures.whole each c.in-Ok.ensures c.args.limits.now c.in-Some.why
-    (subst (λ (ps : List Links). FirstOver c.args.limits.now ps c.in-Some.why) c.as_slice-2.ensures.value c.in-Some.ensures.1) c.in-Some.ensures.0
+    λ part here. c.read_all.ensures part (subst (λ (ps : List Links). Contains ps part) (sym c.as_slice.ensures.value) here) in (
+      brings_over c.args.links.now parts c.txs-txs.ensures.whole each c.in-Ok.ensures c.args.limits.now c.in-Some.why
+          (subst (λ (ps : List Links). FirstOver c.args.limits.now ps c.in-Some.why) c.as_slice-2.ensures.value c.in-Some.ensures.1) c.in-Some.ensures.0,
+      refl,
+    )
 
 pub records_of-requires : goal.records_of-requires
 records_of-requires g c =

@@ -77,4 +77,4 @@ returns-in-Err-clause-step g c =
     → (found : Option Refusal) × RestoreRefusalIs state.plain txs pairs found × IsAnsweredBy found why)
     c.txs.ensures c.pairs.ensures c.in-Err.ensures.row in
     subst₂ (λ (bs : List MinedBlock) (k : graphs.Kept). MakesStep (record { graph = old; blocks = bs }) (record { graph = k; blocks = bs }) Unmine (Refused why))
-    (sym is.at ∙ c.self.view_is) (sym c.in-Err.ensures.same) (unmine_refused old old block is.earlier why row)
+    (sym is.at ∙ c.self.view_is) (sym c.in-Err.ensures.refused.0) (unmine_refused old old block is.earlier why row)

@@ -97,7 +97,7 @@ restore-requires g c =
 
 pub invariant_of-self : goal.invariant_of-self
 invariant_of-self g c =
-    sound_still (64 * g.row.W) c.self.inside.begun c.self.inside.levels c.restore.new.self c.in_err-restore.ensures.err c.self.invariant
+    sound_still (64 * g.row.W) c.self.inside.begun c.self.inside.levels c.restore.new.self c.in_err-restore.ensures.refused.0 c.self.invariant
 
 pub returns-in_err-restore-clause-row : goal.returns-in_err-restore-clause-row
 returns-in_err-restore-clause-row g c =

@@ -8,7 +8,7 @@ pub returns-clause-types : goal.returns-clause-types
 returns-clause-types c = cut_types c.args.bytes.now c.read_lines.result c.read_lines.ensures
 
 pub returns-clause-amounts : goal.returns-clause-amounts
-returns-clause-amounts c = cut_amounts c.args.bytes.now c.read_lines.result c.requires c.read_lines.ensures
+returns-clause-amounts c small = cut_amounts c.args.bytes.now c.read_lines.result small c.read_lines.ensures
 
 pub returns-clause-syntax : goal.returns-clause-syntax
 returns-clause-syntax c = cut_syntax c.args.bytes.now c.read_lines.result c.read_lines.ensures

@@ -1,8 +1,0 @@
-use Rattle.std.proofs.Common.{rules}
-use Rattle.std.proofs.lemmas.List.Sorted.{answers_always}
-use Rattle.dump.proofs.Rising.{ends, none_falls}
-use Rattle.dump.proofs.sorting.sort_edges.Goals as goal
-
-pub returns-clause-rises : goal.returns-clause-rises
-returns-clause-rises c =
-    none_falls c.sort_unstable_by_key.new.self.items (c.sort_unstable_by_key.ensures.sorted ends (answers_always _ _ _ (λ f a r g h. search rules)))

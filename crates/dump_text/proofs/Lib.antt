@@ -1,0 +1,4 @@
+mod Covering
+mod Neighbours
+pub mod Rising
+mod Spelled
