@@ -16,7 +16,7 @@ number_once id rows m n one other =
 abbrev name_of : Asked → Text
 name_of Replays = codes "replay"
 name_of Checks = codes "check"
-name_of Loads = []
+name_of Loads = codes "load"
 name_of (Generates seed count) = codes "gen"
 
 abbrev first_byte : Text → ℕ
@@ -34,7 +34,7 @@ entered_rows (Some entered) = entered.1
 name_entered : (entered : Option (Text × List Row)) (asked : Asked) → Enters entered asked → entered_name entered ≡ first_byte (name_of asked)
 name_entered entered Replays enters = ap entered_name enters.1
 name_entered entered Checks enters = ap entered_name enters.1
-name_entered entered Loads enters = absurd enters
+name_entered entered Loads enters = ap entered_name enters.1
 name_entered entered (Generates seed count) enters = ap entered_name enters.1
 
 entered_once : (entered : Option (Text × List Row)) (one other : Asked) → first_byte (name_of one) ≡ first_byte (name_of other) → Enters entered one
@@ -46,14 +46,19 @@ entered_once entered (Generates s c) (Generates t d) same one other =
     ap₂ Generates
     (number_once (codes "SEED") other.0 s t (subst (λ (rs : List Row). HasNumber (codes "SEED") rs s) rows one.2) other.2)
     (number_once (codes "COUNT") other.0 c d (subst (λ (rs : List Row). HasNumber (codes "COUNT") rs c) rows one.3) other.3)
-entered_once entered Loads other same one two = absurd one
-entered_once entered one Loads same first second = absurd second
+entered_once entered Loads Loads same one other = refl
 entered_once entered Replays Checks same one other = absurd (let bad : 114 ≡ 99 = same in omega (arith, bad))
+entered_once entered Replays Loads same one other = absurd (let bad : 114 ≡ 108 = same in omega (arith, bad))
 entered_once entered Replays (Generates t d) same one other = absurd (let bad : 114 ≡ 103 = same in omega (arith, bad))
 entered_once entered Checks Replays same one other = absurd (let bad : 99 ≡ 114 = same in omega (arith, bad))
+entered_once entered Checks Loads same one other = absurd (let bad : 99 ≡ 108 = same in omega (arith, bad))
 entered_once entered Checks (Generates t d) same one other = absurd (let bad : 99 ≡ 103 = same in omega (arith, bad))
+entered_once entered Loads Replays same one other = absurd (let bad : 108 ≡ 114 = same in omega (arith, bad))
+entered_once entered Loads Checks same one other = absurd (let bad : 108 ≡ 99 = same in omega (arith, bad))
+entered_once entered Loads (Generates t d) same one other = absurd (let bad : 108 ≡ 103 = same in omega (arith, bad))
 entered_once entered (Generates s c) Replays same one other = absurd (let bad : 103 ≡ 114 = same in omega (arith, bad))
 entered_once entered (Generates s c) Checks same one other = absurd (let bad : 103 ≡ 99 = same in omega (arith, bad))
+entered_once entered (Generates s c) Loads same one other = absurd (let bad : 103 ≡ 108 = same in omega (arith, bad))
 
 pub enters_once : (entered : Option (Text × List Row)) (one other : Asked) → Enters entered one → Enters entered other → one ≡ other
 enters_once entered one other first second =
@@ -95,11 +100,12 @@ number_found id rows (Some v) n gives has few = ap Some (number_once id rows v n
 pub gen_refused : (name : Text) (rows : List Row) (seed count : Option ℕ) → name ≡ codes "gen" → GivesNumber (codes "SEED") rows seed
     → GivesNumber (codes "COUNT") rows count → ((s n : ℕ) → seed ≡ Some s → count ≡ Some n → HasRange (Generates s n) → ⊥)
     → (asked : Asked) → Enters (Some (name, rows)) asked → HasRange asked → ⊥
-gen_refused name rows seed count is one other none Loads enters range = enters
 gen_refused name rows seed count is one other none Replays enters range =
     let bad : 103 ≡ 114 = sym (ap first_byte is) ∙ ap entered_name enters.1 in omega (arith, bad)
 gen_refused name rows seed count is one other none Checks enters range =
     let bad : 103 ≡ 99 = sym (ap first_byte is) ∙ ap entered_name enters.1 in omega (arith, bad)
+gen_refused name rows seed count is one other none Loads enters range =
+    let bad : 103 ≡ 108 = sym (ap first_byte is) ∙ ap entered_name enters.1 in omega (arith, bad)
 gen_refused name rows seed count is one other none (Generates s n) enters range =
     let same : rows ≡ enters.0 = ap entered_rows enters.1 in
     none s n

@@ -11,7 +11,7 @@ use Rattle.clap.specs.declared.parser.matches.ValueSource.TheVariants.{CommandLi
 use Rattle.clap.specs.declared.builder.value_parser.Reading.TheVariants.{AsWritten}
 use Rattle.clap.specs.declared.builder.value_parser.ValueParser.TheVariants.{Unsigned}
 use Rattle.clap.proofs.OnLiterals.{clap_on_literals}
-use Rattle.graph_model.specs.CommandLines.{Replays, Checks, Generates, HasRange}
+use Rattle.graph_model.specs.CommandLines.{Replays, Checks, Loads, Generates, HasRange}
 use Rattle.command_line.specs.Words.{AsksFor, HasNumber, WordsAskOnce, txgraph}
 use Rattle.command_line.proofs.AskLemmas.{asks_once}
 
@@ -22,6 +22,10 @@ replay_asked name = record { taken = refl; enters = ([], refl); range = tt }
 pub check_asked : (name : Text) → AsksFor (name ∷ codes "check" ∷ []) Checks
 unfolding clap_on_literals
 check_asked name = record { taken = refl; enters = ([], refl); range = tt }
+
+pub load_asked : (name : Text) → AsksFor (name ∷ codes "load" ∷ []) Loads
+unfolding clap_on_literals
+load_asked name = record { taken = refl; enters = ([], refl); range = tt }
 
 -- the value of an argument, as the command line gives it
 abbrev row : Text → Text → Row
@@ -91,6 +95,7 @@ words_ask_once = record {
   once = asks_once;
   replays = replay_asked;
   checks = check_asked;
+  loads = load_asked;
   generates = λ name seed count range. spelled name (decimal seed) (decimal count) seed count (decimal_spells seed (omega (arith, range.0)))
       (decimal_spells count (omega (arith, range.1))) range;
 }

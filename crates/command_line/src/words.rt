@@ -3,7 +3,7 @@ ghost use Rattle.clap.specs.Words.{app_of, found_of, rows_of, subcommand_rows_of
 ghost use Rattle.clap.specs.declared.builder.command.Command.TheViews.{out-Command as fields_of};
 ghost use Rattle.graph_model.specs.CommandLines.{HasRange, Generates};
 ghost use Rattle.graph_model.specs.CommandLines as lines;
-ghost use Rattle.command_line.specs.Words.{AsksFor, AreRefused, Enters, HasNumber, asked_of, txgraph, gen_app, number_rule};
+ghost use Rattle.command_line.specs.Words.{AsksFor, AreRefused, Enters, HasNumber, asked_of, txgraph, base_app, gen_app, number_rule};
 
 use clap::error::ErrorKind;
 use clap::{Arg, ArgAction, ArgMatches, Command, Error, value_parser};
@@ -22,6 +22,8 @@ pub enum Asked {
     Replay,
     /// `check`: a text is checked.
     Check,
+    /// `load`: a text is loaded as a graph.
+    Load,
     /// `gen SEED COUNT`: so many commands are made of the seed, below 2^31 and at most 1,000,000, and answered.
     Gen(u64, u64),
 }
@@ -61,14 +63,21 @@ fn parse<'a>(alloc: Global, words: &'a [String]) -> Result<ArgMatches<'a>, Error
 pub fn command_line<'a>(alloc: Global) -> Result<Command<'a>, AllocError>
     ensures { IfOk result (λ command. app_of command ≡ txgraph) }
 {
+    let load = Command::new(alloc, "load");
+    let generate = gen_command(alloc)?;
+    base_command(alloc)?.subcommand(load)?.subcommand(generate)
+}
+
+/// `txgraph` with the first two of its subcommands, `replay` and `check`.
+fn base_command<'a>(alloc: Global) -> Result<Command<'a>, AllocError>
+    ensures { IfOk result (λ command. app_of command ≡ base_app) }
+{
     let replay = Command::new(alloc, "replay");
     let check = Command::new(alloc, "check");
-    let generate = gen_command(alloc)?;
     Command::new(alloc, "txgraph")
         .subcommand_required(true)
         .subcommand(replay)?
-        .subcommand(check)?
-        .subcommand(generate)
+        .subcommand(check)
 }
 
 /// `gen SEED COUNT`
@@ -117,6 +126,9 @@ fn named(name: &str, given: &ArgMatches<'_>) -> Result<Asked, WordsFault>
     }
     if name == "check" {
         return Ok(Asked::Check);
+    }
+    if name == "load" {
+        return Ok(Asked::Load);
     }
     if name == "gen" {
         let seed = number(given, "SEED");

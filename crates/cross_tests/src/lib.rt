@@ -6,6 +6,8 @@
 #[cfg(test)]
 mod check_tests;
 #[cfg(test)]
+mod load_tests;
+#[cfg(test)]
 mod mined;
 #[cfg(test)]
 mod mined_tests;

@@ -434,7 +434,7 @@ fn faults_give_their_status(rt: HostRuntime) -> Result<(), Fail> {
 const REFUSED_WORDS: [&[&str]; 8] = [
     &["txgraph", "replay", "x"],
     &["txgraph"],
-    &["txgraph", "load"],
+    &["txgraph", "load", "x"],
     &["txgraph", "--help"],
     &["txgraph", "gen", "1"],
     &["txgraph", "gen", "1", "4", "4"],
@@ -448,7 +448,7 @@ fn refused_words() -> &'static [&'static [&'static str]] {
 
 #[test]
 fn other_words_are_told_the_usage(rt: HostRuntime) -> Result<(), Fail> {
-    let usage = "usage: txgraph replay | check | gen SEED COUNT\n";
+    let usage = "usage: txgraph replay | check | load | gen SEED COUNT\n";
     for words in refused_words() {
         let wanted = (Status::Usage, usage);
         shows(&rt, rt.alloc(), words, "add 1 1 1\n", even(64), wanted)?;

@@ -18,8 +18,9 @@ use Rattle.outside.specs.Faults.{Rose}
 use Rattle.replay.specs.declared.top.Status.{Status}
 use Rattle.replay.specs.declared.top.Status.TheVariants as statuses
 use Rattle.replay.specs.Checks.{Checks}
+use Rattle.replay.specs.Loads.{Loads}
 use Rattle.replay.specs.Generations.{Generates}
-use Rattle.replay.specs.Statuses.{AreReplay, AreCheck, AreGen, AreRefused, Replays, Refuses, SuitsWords, EndsWell, StatusFaults}
+use Rattle.replay.specs.Statuses.{AreReplay, AreCheck, AreLoad, AreGen, AreRefused, Replays, Refuses, SuitsWords, EndsWell, StatusFaults}
 
 -- how it ended, and the source and the sink as they are then
 pub record Ending (S K : Type 0) : Type 0 where
@@ -32,6 +33,7 @@ pub record Runs {S K : Type 0} (left : S → Option (List ℕ)) (reads : S → �
     (given : List (List ℕ)) (source : S) (sink : K) (end : Ending S K) : Type 0 where
   pub replays : AreReplay given → Replays end.status (left source) (left end.source) written sink end.sink
   pub checks : AreCheck given → Checks end.status (left source) (left end.source) written sink end.sink
+  pub loads : AreLoad given → Loads end.status (left source) (left end.source) written sink end.sink
   pub generates : (seed count : ℕ) → AreGen given seed count → (end.source ≡ source) × Generates end.status seed count written sink end.sink
   pub refuses : AreRefused given → (end.source ≡ source) × Refuses end.status written sink end.sink
   pub no_memory : end.status ≡ statuses.NoMemory → (end.sink ≡ sink) × (AreReplay given → end.source ≡ source)

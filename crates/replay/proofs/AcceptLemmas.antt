@@ -1,4 +1,4 @@
--- What `proof` writes is answered `yes` by `check`.
+-- What `proof` and `load` write is answered `yes` by `check`.
 use Rattle.std.proofs.Common.{◌≡◌, ℕ, ◌<◌, ◌≤◌, false, true, List, [], ◌∷◌, ◌++◌, Bool, cond, ◌+◌, length, refl, sym, ap, subst, subst₂, ◌∙◌, inl, inr, arith, length-append, append-nil, true≢false, Option, None, Some}
 use Rattle.std.specs.Prelude.{◌↔◌, ◌⊎◌, ◌==◌, Contains}
 use Rattle.std.specs.List.{zip}
@@ -11,7 +11,10 @@ use Rattle.graphs.specs.Certificates.{Part, Finding, Certified, NoGraph, NoOrder
 use Rattle.graph_model.specs.Words.{spaced}
 use Rattle.graph_model.specs.Lines.{Cut, Means, Says, with_last, without_return, max_input}
 use Rattle.graph_model.specs.Commands.{Command, Proof, words_of}
-use Rattle.graph_model.specs.States.{State, level_of, pick_of, start}
+use Rattle.graph_model.specs.Limits.{AreInRange, default_limits}
+use Rattle.graph_model.specs.Dumps.{DumpText, Loads, FindsLoad}
+use Rattle.graph_model.specs.Loads.{LoadWrites}
+use Rattle.graph_model.specs.States.{PlainState, State, level_of, pick_of, start}
 use Rattle.graph_model.specs.Validity.{IsValidState}
 use Rattle.graph_model.specs.Answers.{ProvesOrder}
 use Rattle.graph_model.specs.declared.names.Refusal.TheVariants.{Oversized}
@@ -23,6 +26,7 @@ use Rattle.replay.specs.declared.session.TheConstants.{MOST_NAMES}
 use Rattle.graph_model.proofs.ProofLemmas.{proofs_are_certificates}
 use Rattle.graph_model.proofs.StepLemmas.{steps_keep_valid}
 use Rattle.graph_model.proofs.LimitLemmas.{line_strict}
+use Rattle.graph_model.proofs.LoadLemmas.{loads_prove}
 use Rattle.graph_model.proofs.ValidLemmas.{top_level}
 use Rattle.graph_model.specs.Oversize.{IsOversized}
 use Rattle.wire.proofs.CommandLemmas.{one_command}
@@ -256,6 +260,24 @@ strict_in written old end (first ∷ lines) (reply ∷ answers) valid strict set
           (λ other bounds there. sets other bounds (Contains-later first other lines there)) run line level answer later means
     ]
 
+-- ---- a text that `load` accepts
+
+-- the state that it makes is valid, and its limits are those at the start
+load_accepted : {K : Type 0} (written : K → Option (List ℕ)) (bytes out : List ℕ) (text : DumpText) → FindsLoad default_limits bytes (Loads text)
+    → LoadWrites MOST_NAMES default_limits (Loads text) out → AreAccepted written out
+load_accepted written bytes out text found (state, reply, to, step, is) =
+    let in_range : AreInRange MOST_NAMES default_limits = record {
+      count_low = omega arith;
+      count_high = omega arith;
+      size_low = omega arith;
+      size_high = omega arith;
+      total_low = omega arith;
+      total_high = omega arith;
+    } in
+    let valid : IsValidState state = loads_prove.valid MOST_NAMES default_limits bytes text state (omega arith) in_range found to in
+    let strict : state.plain.limits.defer ≡ false = ap (λ (s : PlainState). s.limits.defer) to.plain.same in
+    subst (λ (b : List ℕ). AreAccepted written b) (sym is) (step_accepted written state state Main reply valid (none_over state Main valid strict) step)
+
 pub check_accepts_proofs : {K : Type 0} (written : K → Option (List ℕ)) → CheckAcceptsProofs written
 check_accepts_proofs written = record {
   steps = step_accepted written;
@@ -263,4 +285,5 @@ check_accepts_proofs written = record {
       accepted_in written (start MOST_NAMES) end lines answers (steps_keep_valid.begins MOST_NAMES (omega arith) (omega arith)) run;
   strict = λ lines answers end run sets.
       strict_in written (start MOST_NAMES) end lines answers (steps_keep_valid.begins MOST_NAMES (omega arith) (omega arith)) refl sets run;
+  loads = load_accepted written;
 }

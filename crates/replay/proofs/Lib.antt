@@ -1,6 +1,7 @@
 pub mod SessionLemmas
 pub mod YieldedLemmas
 pub mod CheckLemmas
+pub mod LoadLemmas
 pub mod LimitLemmas
 pub mod WindowLemmas
 pub mod CutLemmas

@@ -1,4 +1,4 @@
--- What a reader would expect of the two commands together: what `proof` writes is answered `yes` by `check`.
+-- What a reader would expect of the commands together: what `proof` and `load` write is answered `yes` by `check`.
 use Rattle.std.specs.Prelude.{◌≡◌, ◌↔◌, ◌⊎◌, ℕ, ◌≤◌, List, length, codes, Contains, Option, Some, false}
 use Rattle.std.specs.List.{zip}
 use Rattle.std.specs.Io.KnownBytes.{Appends}
@@ -8,7 +8,9 @@ use Rattle.graphs.specs.Certificates.{Certified}
 use Rattle.graph_model.specs.Words.{line_text}
 use Rattle.graph_model.specs.Lines.{Means, Says, max_input}
 use Rattle.graph_model.specs.Commands.{Proof, SetLimits}
-use Rattle.graph_model.specs.Limits.{Bounds}
+use Rattle.graph_model.specs.Limits.{Bounds, default_limits}
+use Rattle.graph_model.specs.Dumps.{DumpText, Loads, FindsLoad}
+use Rattle.graph_model.specs.Loads.{LoadWrites}
 use Rattle.graph_model.specs.States.{State, start}
 use Rattle.graph_model.specs.Oversize.{IsOversized}
 use Rattle.graph_model.specs.declared.names.Refusal.TheVariants.{Oversized}
@@ -51,7 +53,7 @@ SetStrictly lines = (line : List ℕ) (bounds : Bounds) → Contains lines line 
 
 -- In a valid state, where the level isn't oversized, the text of the reply to `proof` is accepted. So in every run from the start, whatever
 -- lines come before it, a line which says `proof` is answered by bytes that are accepted, or by the refusal of an oversized level; and always
--- by bytes that are accepted where no line lets a dependency pass the limits.
+-- by bytes that are accepted where no line lets a dependency pass the limits. So are the bytes that `load` writes of a text that it accepts.
 pub record CheckAcceptsProofs {K : Type 0} (written : K → Option (List ℕ)) : Type 0 where
   pub steps : (old new : State) (level : Level) (reply : Reply) → IsValidState old → (IsOversized old.plain level → ⊥) → Step old (Proof level) reply new
       → AreAccepted written (text_of reply)
@@ -61,3 +63,5 @@ pub record CheckAcceptsProofs {K : Type 0} (written : K → Option (List ℕ)) :
   pub strict : (lines : List (List ℕ)) (answers : List Answer) (end : State) → Run (start MOST_NAMES) lines answers end → SetStrictly lines
       → (line : List ℕ) (level : Level) (answer : Answer) → Contains (zip lines answers) (line, answer) → Means line (Says (Proof level))
       → AreAccepted written (answer_text answer)
+  pub loads : (bytes out : List ℕ) (text : DumpText) → FindsLoad default_limits bytes (Loads text) → LoadWrites MOST_NAMES default_limits (Loads text) out
+      → AreAccepted written out

@@ -6,6 +6,7 @@ pub mod Inputs
 pub mod Outputs
 pub mod Statuses
 pub mod Checks
+pub mod Loads
 pub mod Verdicts
 pub mod Windows
 pub mod Cutters

@@ -1,5 +1,5 @@
 -- How the program ends.
-use Rattle.std.specs.Prelude.{◌≡◌, ℕ, List, codes, Bool, true, false}
+use Rattle.std.specs.Prelude.{◌≡◌, ◌⊎◌, ℕ, List, codes, Bool, true, false}
 use Rattle.std.specs.Io.KnownBytes.{Appends}
 use Rattle.std.specs.declared.option.Option.{Option}
 use Rattle.outside.specs.Faults.{Rose}
@@ -22,6 +22,10 @@ AreReplay words = command_line.AsksFor words commands.Replays
 abbrev pub AreCheck : List (List ℕ) → Type 0
 AreCheck words = command_line.AsksFor words commands.Checks
 
+-- they ask for `load`
+abbrev pub AreLoad : List (List ℕ) → Type 0
+AreLoad words = command_line.AsksFor words commands.Loads
+
 -- they ask for `gen` with this seed and this number of commands
 abbrev pub AreGen : List (List ℕ) → ℕ → ℕ → Type 0
 AreGen words seed count = command_line.AsksFor words (commands.Generates seed count)
@@ -31,7 +35,7 @@ abbrev pub AreRefused : List (List ℕ) → Type 0
 AreRefused = command_line.AreRefused
 
 abbrev pub usage_text : List ℕ
-usage_text = line_text (codes "usage: txgraph replay | check | gen SEED COUNT")
+usage_text = line_text (codes "usage: txgraph replay | check | load | gen SEED COUNT")
 
 -- the last line without a line feed counts where the source answered its end
 abbrev pub is_told : End → Bool
@@ -92,10 +96,10 @@ Refuses statuses.WriteFault written old new = AppendsFront (written old) (writte
 Refuses statuses.NoMemory written old new = new ≡ old
 Refuses statuses.InputLimit written old new = ⊥
 
--- Usage comes with refused words alone, and No with `check` alone
+-- Usage comes with refused words alone, and No with `check` and `load` alone
 abbrev pub SuitsWords : Status → List (List ℕ) → Type 0
 SuitsWords statuses.Done words = Unit {0}
-SuitsWords statuses.No words = AreCheck words
+SuitsWords statuses.No words = AreCheck words ⊎ AreLoad words
 SuitsWords statuses.Usage words = AreRefused words
 SuitsWords statuses.ReadFault words = Unit {0}
 SuitsWords statuses.WriteFault words = Unit {0}

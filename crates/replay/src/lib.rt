@@ -1,5 +1,5 @@
-//! The session of a transaction graph: lines go in, replies come out, and the graph is kept between them. Beside it stand the command
-//! that checks a certificate, and [`run`], the top call of both.
+//! The session of a transaction graph: lines go in, replies come out, and the graph is kept between them. Beside it stand the commands
+//! that check a certificate and load a graph, and [`run`], the top call of all.
 //!
 //! # How it works
 //!
@@ -20,6 +20,7 @@ mod generated;
 mod input;
 mod laws;
 mod lines;
+mod load;
 mod pool;
 mod reading;
 mod replies;

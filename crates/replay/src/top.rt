@@ -5,14 +5,16 @@ ghost use Rattle.graph_model.specs.Lines.{max_input};
 ghost use Rattle.outside.specs.Faults.{Rose};
 ghost use Rattle.reorg.specs.Kept.{StandsFor};
 ghost use Rattle.replay.specs.Generations.{Generates};
-ghost use Rattle.replay.specs.Statuses.{AreReplay, AreCheck, AreGen, AreRefused, Replays, Refuses, SuitsWords, EndsWell, StatusFaults, end_status, status_code};
+ghost use Rattle.replay.specs.Statuses.{AreReplay, AreCheck, AreLoad, AreGen, AreRefused, Replays, Refuses, SuitsWords, EndsWell, StatusFaults, end_status, status_code};
 ghost use Rattle.replay.specs.Checks.{Checks};
+ghost use Rattle.replay.specs.Loads.{Loads};
 
 use crate::answering::answer_lines;
 use crate::check::check_text;
 use crate::generated::write_generated;
 use crate::input::End;
 use crate::lines::{Lines, Stage};
+use crate::load::load_text;
 use crate::replies::Replies;
 use crate::session::Session;
 use command_line::{Asked, WordsFault, read_words};
@@ -25,7 +27,7 @@ use wire::write_word;
 pub enum Status {
     /// The input was read to its end, or for `gen` all commands were run, and everything was written.
     Done = 0,
-    /// The text of a `check` is no certificate.
+    /// The text of a `check` is no certificate, or that of a `load` is refused.
     No = 1,
     /// The words aren't a command; the usage line was written.
     Usage = 2,
@@ -48,18 +50,20 @@ impl Status {
     }
 }
 
-/// Runs the program: `words` are its name and the command, `replay`, `check` or `gen SEED COUNT`.
+/// Runs the program: `words` are its name and the command, `replay`, `check`, `load` or `gen SEED COUNT`.
 pub fn run<S: Source, K: Sink>(
     alloc: Global,
     words: &[String],
     source: &mut S,
     sink: &mut K,
 ) -> Status
-    // By what the words ask for: what was read and what was written, by status. Only `replay` and `check` read.
+    // By what the words ask for: what was read and what was written, by status. Only `gen` doesn't read.
     ensures replays { AreReplay (map string_bytes words.now)
         → Replays result (S.left source.old) (S.left source.new) K.written sink.old sink.new }
     ensures checks { AreCheck (map string_bytes words.now)
         → Checks result (S.left source.old) (S.left source.new) K.written sink.old sink.new }
+    ensures loads { AreLoad (map string_bytes words.now)
+        → Loads result (S.left source.old) (S.left source.new) K.written sink.old sink.new }
     ensures generates { (seed count : ℕ) → AreGen (map string_bytes words.now) seed count
         → (source.new ≡ source.old) × Generates result seed count K.written sink.old sink.new }
     ensures refuses { AreRefused (map string_bytes words.now) → (source.new ≡ source.old)
@@ -73,7 +77,7 @@ pub fn run<S: Source, K: Sink>(
     ensures faults { StatusFaults result (S.faults source.old) (S.faults source.new) (K.faults sink.old)
         (K.faults sink.new) }
 
-    // With accepted words and no fault: Done or, for `check`, No; want of memory; or past the limit.
+    // With accepted words and no fault: Done or, for `check` and `load`, No; want of memory; or past the limit.
     ensures complete { (AreRefused (map string_bytes words.now) → ⊥)
         → (Rose (S.faults source.old) (S.faults source.new) → ⊥)
         → (Rose (K.faults sink.old) (K.faults sink.new) → ⊥) → EndsWell result }
@@ -82,6 +86,7 @@ pub fn run<S: Source, K: Sink>(
     match read_words(alloc, words) {
         Ok(Asked::Replay) => replay_lines(alloc, source, sink),
         Ok(Asked::Check) => check_text(alloc, source, sink),
+        Ok(Asked::Load) => load_text(alloc, source, sink),
         Ok(Asked::Gen(seed, count)) => write_generated(alloc, seed, count, sink),
         Err(WordsFault::Refused) => refuse_words(sink),
         Err(WordsFault::Memory) => Status::NoMemory,
@@ -153,7 +158,10 @@ fn refuse_words<K: Sink>(sink: &mut K) -> Status
     ensures refuses { Refuses result K.written sink.old sink.new }
     ensures faults { (reads : ℕ) → StatusFaults result reads reads (K.faults sink.old) (K.faults sink.new) }
 {
-    match write_word(sink, "usage: txgraph replay | check | gen SEED COUNT") {
+    match write_word(
+        sink,
+        "usage: txgraph replay | check | load | gen SEED COUNT",
+    ) {
         Ok(()) => Status::Usage,
         Err(Failed) => Status::WriteFault,
     }

@@ -19,6 +19,7 @@ returns g c =
           (record { status = w.run-status.result; source = w.run-status.new.source; sink = w.run-status.new.sink }) = record {
             replays = told.replays;
             checks = told.checks;
+            loads = told.loads;
             generates = told.generates;
             refuses = told.refuses;
             no_memory = told.no_memory;

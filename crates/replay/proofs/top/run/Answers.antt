@@ -18,6 +18,9 @@ returns-in-Err-Refused-clause-replays g c asked = absurd (c.in-Err-Refused.ensur
 pub returns-in-Err-Refused-clause-checks : goal.returns-in-Err-Refused-clause-checks
 returns-in-Err-Refused-clause-checks g c asked = absurd (c.in-Err-Refused.ensures.refused c.in-Err-Refused.field-0-is commands.Checks asked)
 
+pub returns-in-Err-Refused-clause-loads : goal.returns-in-Err-Refused-clause-loads
+returns-in-Err-Refused-clause-loads g c asked = absurd (c.in-Err-Refused.ensures.refused c.in-Err-Refused.field-0-is commands.Loads asked)
+
 pub returns-in-Err-Refused-clause-generates : goal.returns-in-Err-Refused-clause-generates
 returns-in-Err-Refused-clause-generates g c seed count asked =
     absurd (c.in-Err-Refused.ensures.refused c.in-Err-Refused.field-0-is (commands.Generates seed count) asked)

@@ -1,0 +1,37 @@
+use Rattle.std.proofs.Common.{codes, refl, subst, arith}
+use Rattle.std.specs.declared.result.Result.TheVariants.{Err}
+use Rattle.dump_text.specs.declared.fault.LoadFault.{LoadFault}
+use Rattle.dump.specs.Loading.{LoadGives}
+use Rattle.graph_model.specs.Dumps as dumps
+use Rattle.graph_model.specs.Limits.{default_limits}
+use Rattle.graph_model.specs.Words.{line_text}
+use Rattle.replay.specs.declared.session.TheConstants.{MOST_NAMES}
+use Rattle.replay.proofs.LoadLemmas.{proof_writes, told_loaded, told_refused}
+use Rattle.replay.proofs.load.load_bytes.Goals as goal
+
+pub load_unpaid-requires : goal.load_unpaid-requires
+load_unpaid-requires g c = record { name = refl; parts = refl; some = omega (arith, c.new.ensures) }
+
+pub returns-in-Ok-clause-loads : goal.returns-in-Ok-clause-loads
+returns-in-Ok-clause-loads g c =
+    let (text, state, finds, loads, stands) = c.in-Ok.ensures.loads in
+    told_loaded g.K.Sink.written c.args.sink.now c.prove-status.new.sink c.args.bytes.now c.prove-status.result text _ finds
+    (λ out (answer, is, told). proof_writes _ MOST_NAMES default_limits text state answer out loads stands is told) c.prove-status.ensures.tells
+
+pub returns-in-Err-Syntax-clause-loads : goal.returns-in-Err-Syntax-clause-loads
+returns-in-Err-Syntax-clause-loads g c =
+    told_refused g.K.Sink.written c.args.sink.now c.refuse.new.sink c.args.bytes.now c.refuse.result dumps.NoSyntax (line_text (codes "no syntax"))
+    (λ text e. cc) (subst (λ (f : LoadFault). LoadGives MOST_NAMES default_limits c.args.bytes.now (Err f)) c.in-Err-Syntax.field-0-is c.in-Err-Syntax.ensures.loads)
+    refl c.refuse.ensures.tells
+
+pub returns-in-Err-Graph-clause-loads : goal.returns-in-Err-Graph-clause-loads
+returns-in-Err-Graph-clause-loads g c =
+    told_refused g.K.Sink.written c.args.sink.now c.refuse-2.new.sink c.args.bytes.now c.refuse-2.result dumps.NoGraph (line_text (codes "no graph"))
+    (λ text e. cc) (subst (λ (f : LoadFault). LoadGives MOST_NAMES default_limits c.args.bytes.now (Err f)) c.in-Err-Graph.field-0-is c.in-Err-Graph.ensures.loads)
+    refl c.refuse-2.ensures.tells
+
+pub returns-in-Err-Limits-clause-loads : goal.returns-in-Err-Limits-clause-loads
+returns-in-Err-Limits-clause-loads g c =
+    told_refused g.K.Sink.written c.args.sink.now c.refuse-3.new.sink c.args.bytes.now c.refuse-3.result dumps.NoLimits (line_text (codes "no limits"))
+    (λ text e. cc) (subst (λ (f : LoadFault). LoadGives MOST_NAMES default_limits c.args.bytes.now (Err f)) c.in-Err-Limits.field-0-is c.in-Err-Limits.ensures.loads)
+    refl c.refuse-3.ensures.tells
