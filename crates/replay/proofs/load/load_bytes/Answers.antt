@@ -26,12 +26,12 @@ returns-in-Err-Syntax-clause-loads g c =
 
 pub returns-in-Err-Graph-clause-loads : goal.returns-in-Err-Graph-clause-loads
 returns-in-Err-Graph-clause-loads g c =
-    told_refused g.K.Sink.written c.args.sink.now c.refuse-2.new.sink c.args.bytes.now c.refuse-2.result dumps.NoGraph (line_text (codes "no graph"))
+    told_refused g.K.Sink.written c.args.sink.now c.refuse-in-Err-Graph.new.sink c.args.bytes.now c.refuse-in-Err-Graph.result dumps.NoGraph (line_text (codes "no graph"))
     (λ text e. cc) (subst (λ (f : LoadFault). LoadGives MOST_NAMES default_limits c.args.bytes.now (Err f)) c.in-Err-Graph.field-0-is c.in-Err-Graph.ensures.loads)
-    refl c.refuse-2.ensures.tells
+    refl c.refuse-in-Err-Graph.ensures.tells
 
 pub returns-in-Err-Limits-clause-loads : goal.returns-in-Err-Limits-clause-loads
 returns-in-Err-Limits-clause-loads g c =
-    told_refused g.K.Sink.written c.args.sink.now c.refuse-3.new.sink c.args.bytes.now c.refuse-3.result dumps.NoLimits (line_text (codes "no limits"))
+    told_refused g.K.Sink.written c.args.sink.now c.refuse-in-Err-Limits.new.sink c.args.bytes.now c.refuse-in-Err-Limits.result dumps.NoLimits (line_text (codes "no limits"))
     (λ text e. cc) (subst (λ (f : LoadFault). LoadGives MOST_NAMES default_limits c.args.bytes.now (Err f)) c.in-Err-Limits.field-0-is c.in-Err-Limits.ensures.loads)
-    refl c.refuse-3.ensures.tells
+    refl c.refuse-in-Err-Limits.ensures.tells
