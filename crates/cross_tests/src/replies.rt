@@ -286,7 +286,7 @@ fn reply<K: Sink>(
             let count = lists.level(level).count(level) as u64;
             write_ids(sink, "count", None, &[count])
         }
-        // No form, or a command without a body.
+        // No command, or one that these lists are not asked for.
         _ => write_word(sink, "refused syntax"),
     }
 }

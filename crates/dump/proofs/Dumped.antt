@@ -1,6 +1,6 @@
 -- The sorted lists are the text of every state that a graph stands for, and the machine answers with it.
 use Rattle.std.proofs.Common.{◌≡◌, ℕ, ℤ, true, List, [], ◌∷◌, map, Contains, ◌↔◌, Option, None, Some, inl, inr, refl, sym, ap, subst, ◌∙◌}
-use Rattle.std.specs.List.Sorted.{IsNonDecreasingBy, IsPermutation}
+use Rattle.std.specs.List.Sorted.{IsPermutation, IsStrictlyIncreasing}
 use Rattle.std.proofs.lemmas.List.Sorted.{Contains-permutation, IsPermutation-map, IsPermutation-sym}
 use Rattle.std.proofs.lemmas.Simd.{map-map}
 use Rattle.std.proofs.lemmas.List.{map-id}
@@ -18,7 +18,7 @@ use Rattle.graph_model.specs.declared.names.Refusal.TheVariants.{Memory, Oversiz
 use Rattle.graph_model.specs.Answers.{order_of}
 use Rattle.graph_model.specs.Changes.{ids_of}
 use Rattle.graph_model.specs.Commands.{Count, Dump}
-use Rattle.graph_model.specs.Dumps.{DumpText, IsDump}
+use Rattle.graph_model.specs.Dumps.{DumpText, EdgesRise, IsDump}
 use Rattle.graph_model.specs.Oversize.{IsOversized}
 use Rattle.graph_model.specs.Replies.{Number, Refused, Dumped}
 use Rattle.graph_model.specs.States.{PlainState, State, rate_of, sum_in}
@@ -26,9 +26,7 @@ use Rattle.graph_model.specs.Steps.{Step, Accepts, KeepsPicks}
 use Rattle.graph_model.specs.Validity as validity
 use Rattle.levels.specs.Levels.{IsWithin}
 use Rattle.tx_graph.specs.Kept.{Kept, StandsFor, StandsPlainly, MakesStep, IsPickOf}
-use Rattle.dump_text.specs.Sorting.{NoneFalls}
 use Rattle.dump.specs.Listings.{AreListed, tx_at}
-use Rattle.dump_text.proofs.Rising.{distinct_moved, edges_rise, numbers_rise}
 
 -- transactions of which each is told by its name
 told_by : (f : ℕ → ℕ × ℤ × ℕ) (txs : Txs) → ((tx : ℕ × ℤ × ℕ) → Contains txs tx → tx ≡ f tx.0) → txs ≡ map f (ids_of txs)
@@ -42,8 +40,8 @@ told_by f (tx ∷ txs) each =
 
 module _ (kept : Kept) (state : PlainState) (stands : StandsPlainly kept state) (pick : IsPick (rate_of state.table) state.main kept.levels.main.parts)
     (txs sorted_txs : Txs) (edges sorted_edges : List (ℕ × ℕ)) (listed : AreListed kept.levels.main (order_of kept.levels.main.parts) txs edges)
-    (moved_txs : IsPermutation txs sorted_txs) (rising_txs : IsNonDecreasingBy (λ tx. tx.0) sorted_txs)
-    (moved_edges : IsPermutation edges sorted_edges) (rising_edges : NoneFalls sorted_edges) where
+    (moved_txs : IsPermutation txs sorted_txs) (rising_txs : AreDistinct (ids_of txs) → IsStrictlyIncreasing (ids_of sorted_txs))
+    (moved_edges : IsPermutation edges sorted_edges) (rising_edges : AreDistinct edges → EdgesRise sorted_edges) where
   abbrev graph : closures.Closure
   graph = kept.levels.main.graph
 
@@ -68,7 +66,7 @@ module _ (kept : Kept) (state : PlainState) (stands : StandsPlainly kept state) 
 
   ids_listed : Lists (Contains state.main.names) (ids_of sorted_txs)
   ids_listed = record {
-    rising = numbers_rise number sorted_txs rising_txs (distinct_moved order (ids_of sorted_txs) ids_moved pick.certificate.order.topological.once);
+    rising = rising_txs (subst AreDistinct (sym ids_are) pick.certificate.order.topological.once);
     exact = ids_exact;
   }
 
@@ -106,7 +104,7 @@ module _ (kept : Kept) (state : PlainState) (stands : StandsPlainly kept state) 
     names = ids_listed;
     sums = told_by tx_of sorted_txs tx_told;
     covers = cover_kept;
-    rising = edges_rise sorted_edges rising_edges (distinct_moved edges sorted_edges moved_edges listed.once);
+    rising = rising_edges listed.once;
   }
 
 -- ---- the step
@@ -129,7 +127,8 @@ counted n old new (inr (inr fine)) = fine.accepts
 pub steps_dumped : (kept : Kept) (n : ℕ) (txs sorted_txs : Txs) (edges sorted_edges : List (ℕ × ℕ)) → IsWithin kept.levels Main
     → MakesStep kept kept (Count Main) (Number n)
     → (AreDistinct (order_of kept.levels.main.parts) → AreListed kept.levels.main (order_of kept.levels.main.parts) txs edges)
-    → IsPermutation txs sorted_txs → IsNonDecreasingBy (λ tx. tx.0) sorted_txs → IsPermutation edges sorted_edges → NoneFalls sorted_edges
+    → IsPermutation txs sorted_txs → (AreDistinct (ids_of txs) → IsStrictlyIncreasing (ids_of sorted_txs))
+    → IsPermutation edges sorted_edges → (AreDistinct edges → EdgesRise sorted_edges)
     → MakesStep kept kept Dump (Dumped (record { txs = sorted_txs; edges = sorted_edges }))
 steps_dumped kept n txs sorted_txs edges sorted_edges within counts listed moved_txs rising_txs moved_edges rising_edges state stands =
     let (next, is, step) = counts state stands in

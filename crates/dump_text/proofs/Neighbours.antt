@@ -21,10 +21,9 @@ use Rattle.graph_model.specs.Changes.{ids_of}
 use Rattle.graph_model.specs.Dumps.{EdgesRise}
 use Rattle.graph_model.proofs.EdgeLemmas.{followed}
 use Rattle.links.specs.Links.{AreInRange}
-use Rattle.dump_text.specs.Sorting.{IsNoLater}
 use Rattle.dump_text.specs.Testing.{IsBefore}
 use Rattle.dump_text.proofs.Covering.{edge_at}
-use Rattle.dump_text.proofs.Rising.{edges_rise, ends, pair_cmp, pair_total}
+use Rattle.dump_text.proofs.Rising.{IsNoLater, edges_rise, ends, pair_cmp, pair_total}
 
 -- ---- transactions
 

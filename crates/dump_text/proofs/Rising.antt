@@ -15,9 +15,16 @@ use Rattle.lists.specs.Distinct.{AreDistinct}
 use Rattle.lists.proofs.Entries.{Contains-head, Contains-later, Contains-cases, Contains-between, Contains-splits}
 use Rattle.lists.proofs.Distinct.{distinct_within, distinct_without, places_apart}
 use Rattle.graph_model.specs.Dumps.{EdgesRise}
-use Rattle.dump_text.specs.Sorting.{IsNoLater, NoneFalls}
 
 -- ---- edges
+
+-- of two edges the first has the lesser child, or the same child and no greater parent
+abbrev pub IsNoLater : ℕ × ℕ → ℕ × ℕ → Type 0
+IsNoLater a b = (a.1 < b.1) ⊎ ((a.1 ≡ b.1) × (a.0 ≤ b.0))
+
+-- no edge stands behind one that is to follow it
+abbrev NoneFalls : List (ℕ × ℕ) → Type 0
+NoneFalls edges = (i j : ℕ) (d : ℕ × ℕ) → i < j → j < length edges → IsNoLater (slice_index_or edges i d) (slice_index_or edges j d)
 
 abbrev pub ends : ℕ × ℕ → ℕ × ℕ
 ends edge = (edge.1, edge.0)

@@ -1,5 +1,4 @@
 pub mod Lines
 pub mod Lists
 pub mod Reading
-pub mod Sorting
 pub mod Testing

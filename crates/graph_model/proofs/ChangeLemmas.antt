@@ -137,7 +137,6 @@ module _ (old : PlainState) (id : ℕ) (fee : ℤ) (size : ℕ) (valid : IsValid
   valid_added = of_top base top IsValid
       (λ alone. record {
         limits = valid.limits;
-        most = valid.most;
         main = same_level base (record base { main = top }) top refl (λ q here. refl) more_top;
         staging = subst (IsStaging (record base { main = top })) (sym alone) tt;
         live = live_new (record base { main = top }) refl (λ q.
@@ -160,7 +159,6 @@ module _ (old : PlainState) (id : ℕ) (fee : ℤ) (size : ℕ) (valid : IsValid
       })
       (λ graph open_is. record {
         limits = valid.limits;
-        most = valid.most;
         main = same_level old (record base { staging = Some top }) old.main refl (λ q here. same_sizes q (inl here)) valid.main;
         staging = same_level base (record base { staging = Some top }) top refl (λ q here. refl) more_top;
         live = live_new (record base { staging = Some top }) refl (λ q. (
@@ -188,7 +186,6 @@ retopped : (old : PlainState) (top : Graph) → IsValid old → IsLevel old top
 retopped old top valid level same = of_top (begun old) top IsValid
     (λ alone. record {
       limits = valid.limits;
-      most = valid.most;
       main = same_level old (record (begun old) { main = top }) top refl (λ q here. refl) level;
       staging = subst (IsStaging (record (begun old) { main = top })) (sym alone) tt;
       live = λ q.
@@ -205,7 +202,6 @@ retopped old top valid level same = of_top (begun old) top IsValid
     })
     (λ graph open_is. record {
       limits = valid.limits;
-      most = valid.most;
       main = same_level old (record (begun old) { staging = Some top }) old.main refl (λ q here. refl) valid.main;
       staging = same_level old (record (begun old) { staging = Some top }) top refl (λ q here. refl) level;
       live = λ q. (
@@ -222,7 +218,6 @@ retopped old top valid level same = of_top (begun old) top IsValid
 pub valid_begun : (old : PlainState) → IsValid old → IsValid (begun old)
 valid_begun old valid = record {
   limits = valid.limits;
-  most = valid.most;
   main = same_level old (begun old) old.main refl (λ q here. refl) valid.main;
   staging = staging_along old (begun old) old.staging refl (λ graph is q here. refl) valid.staging;
   live = valid.live;

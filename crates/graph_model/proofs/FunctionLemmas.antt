@@ -29,8 +29,9 @@ use Rattle.graph_model.proofs.ValidLemmas.{top_level}
 use Rattle.graph_model.proofs.TrimLemmas.{trimmed_once}
 use Rattle.graph_model.proofs.OverLemmas.{latest_same}
 use Rattle.graph_model.proofs.SameMinedLemmas.{same_dropped, same_mined, same_unmined}
+use Rattle.graph_model.proofs.RefusedLemmas.{refused_along}
 use Rattle.graph_model.proofs.PickReplies.{some_same, last_same, dumps_same, pick_reply}
-use Rattle.graph_model.proofs.SameLemmas.{back, up_to, linked_to, level_same, same_top, same_begun, same_left, same_put, of_equal, without_same, drops_same, more_names, more_pairs}
+use Rattle.graph_model.proofs.SameLemmas.{back, up_to, linked_to, level_same, state_back, same_top, same_begun, same_left, same_put, of_equal, without_same, drops_same, more_names, more_pairs}
 
 -- ---- what is told of both
 
@@ -318,6 +319,7 @@ told_command Dump = (inr (λ e. cc), inl tt)
 
 pub steps_are_functions : StepsAreFunctions
 steps_are_functions = record {
+  refusals = λ a b command found same. (refused_along a b same found command, refused_along b a (state_back a b same) found command);
   states = λ pa pb a b a' b' command ra rb valid_a valid_b same other. states a b valid_a valid_b same pa pb a' b' ra rb command other;
   replies = λ pa pb a b a' b' command ra rb valid_a valid_b same plain. replies a b valid_a valid_b same pa pb a' b' ra rb command plain;
   states_by_picks = λ picks a b a' b' command ra rb valid_a valid_b same.

@@ -19,6 +19,7 @@ pub mod ProofLemmas
 pub mod SameLemmas
 pub mod BackLemmas
 pub mod FirstLemmas
+pub mod RefusedLemmas
 pub mod SameMinedLemmas
 pub mod BlockLemmas
 pub mod ReadingLemmas

@@ -1,11 +1,12 @@
--- Whether a dependency may pass the limits: `limits` alone says so.
-use Rattle.std.proofs.Common.{◌≡◌, ℕ, zero, suc, Bool, true, false, if◌then◌else◌, List, [], ◌∷◌, refl, ap, subst, ◌∙◌, inl, inr}
+-- The limits, of which `limits` alone says whether a dependency may pass them, and how many names a cluster may be allowed.
+use Rattle.std.proofs.Common.{◌≡◌, ℕ, zero, suc, Bool, true, false, if◌then◌else◌, List, [], ◌∷◌, refl, ap, subst, ◌∙◌, ◌⊎◌, inl, inr}
 use Rattle.std.specs.Prelude.{ltb, ◌==◌}
+use Rattle.std.specs.FinMap as finmap
 use Rattle.graphs.specs.Graphs.{Graph}
 use Rattle.graph_model.specs.States.{PlainState, Picks, State, with_top}
 use Rattle.graph_model.specs.Commands.{Command, SetLimits, Add, Dep, SetFee, Remove, Mine, Evict, Stage, Commit, Abort, Settle, Trim, Unmine, Dump, Compare, Order, Diagram, Proof, Cluster, Ancestors, Descendants, Chunk, Before, Block, Count}
 use Rattle.graph_model.specs.Replies.{Reply}
-use Rattle.graph_model.specs.Changes.{begun, Forgets, DropsFromTop, Changes}
+use Rattle.graph_model.specs.Changes.{begun, limited, Forgets, DropsFromTop, Changes}
 use Rattle.graph_model.specs.Steps.{Step}
 use Rattle.graph_model.specs.Generators.{commands_from, draw, drawn_add, drawn_change, drawn_command, drawn_dep, drawn_remove}
 use Rattle.graph_model.specs.Limits.{Bounds}
@@ -13,60 +14,90 @@ use Rattle.graph_model.specs.Lines.{Means, Says}
 use Rattle.graph_model.specs.Runs.{Answer, Silence, TooLong, Unread, Replies, CommandsRun, LineStep}
 use Rattle.graph_model.proofs.ChangeLemmas.{of_top}
 
-top_keeps : (state : PlainState) (top : Graph) → (with_top state top).limits ≡ state.limits
-top_keeps state top = of_top state top (λ (p : PlainState). p.limits ≡ state.limits) (λ alone. refl) (λ graph open_is. refl)
+-- the same limits, and as many names that a cluster may be allowed
+abbrev KeepsLimits : PlainState → PlainState → Type 0
+KeepsLimits old new = (new.limits ≡ old.limits) × (new.most ≡ old.most)
 
-kept : (a b : PlainState) → b ≡ a → b.limits ≡ a.limits
-kept a b is = ap (λ (p : PlainState). p.limits) is
+top_keeps : (state : PlainState) (top : Graph) → KeepsLimits state (with_top state top)
+top_keeps state top = of_top state top (KeepsLimits state) (λ alone. (refl, refl)) (λ graph open_is. (refl, refl))
 
-forgets_keeps : (mid new : PlainState) → Forgets mid new → new.limits ≡ mid.limits
+kept : (a b : PlainState) → b ≡ a → KeepsLimits a b
+kept a b is = (ap (λ (p : PlainState). p.limits) is, ap (λ (p : PlainState). p.most) is)
+
+-- a change of what has a new top level
+topped : (state new : PlainState) (top : Graph) → KeepsLimits (with_top state top) new → KeepsLimits state new
+topped state new top keeps = let first = top_keeps state top in (keeps.0 ∙ first.0, keeps.1 ∙ first.1)
+
+forgets_keeps : (mid new : PlainState) → Forgets mid new → KeepsLimits mid new
 forgets_keeps mid new forgets = kept (record mid { table = new.table }) new forgets.same
 
-lessened_keeps : (old new : PlainState) (ids : List ℕ) → DropsFromTop old ids new → new.limits ≡ old.limits
+lessened_keeps : (old new : PlainState) (ids : List ℕ) → DropsFromTop old ids new → KeepsLimits old new
 lessened_keeps old new [] same = kept (begun old) new same
-lessened_keeps old new (id ∷ ids) drops = forgets_keeps (with_top (begun old) drops.0) new drops.2 ∙ top_keeps (begun old) drops.0
+lessened_keeps old new (id ∷ ids) drops = topped (begun old) new drops.0 (forgets_keeps (with_top (begun old) drops.0) new drops.2)
+
+-- an accepted command sets the limits, or keeps them
+abbrev SetsOrKeeps : PlainState → Command → PlainState → Type 0
+SetsOrKeeps old command new = ((bounds : Bounds) × (command ≡ SetLimits bounds) × (new ≡ limited old bounds)) ⊎ KeepsLimits old new
+
+change_keeps : (picks : Picks) (old new : PlainState) (command : Command) → Changes picks old command new → SetsOrKeeps old command new
+change_keeps picks old new (SetLimits limits) change = inl (limits, refl, change)
+change_keeps picks old new (Add id fee size) change =
+    let base : PlainState = record (begun old) { table = finmap.insert old.table id (record { fee = fee; size = size }) } in
+    inr (topped base new _ (kept _ new change))
+change_keeps picks old new (Dep parent child) change = elim change [
+  | inl there ↦ inr (kept (begun old) new there.1)
+  | inr fresh ↦ inr (topped (begun old) new _ (kept _ new fresh.1))
+]
+change_keeps picks old new (SetFee id fee) change = inr (kept _ new change)
+change_keeps picks old new (Remove id) change = inr (topped (begun old) new change.0 (forgets_keeps (with_top (begun old) change.0) new change.2))
+change_keeps picks old new (Mine ids) change = inr (forgets_keeps _ new change.2.2)
+change_keeps picks old new Evict change = inr (forgets_keeps _ new change.4.2)
+change_keeps picks old new Stage change = inr (kept _ new change)
+change_keeps picks old new Commit change = inr (forgets_keeps _ new change)
+change_keeps picks old new Abort change = inr (forgets_keeps _ new change)
+change_keeps picks old new Settle change = elim change [
+  | inl better ↦ inr (forgets_keeps _ new better.1)
+  | inr other ↦ inr (forgets_keeps _ new other.1)
+]
+change_keeps picks old new Trim change = inr (lessened_keeps old new change.0 change.2)
+change_keeps picks old new Unmine change = inr (kept _ new change.3.same)
+change_keeps picks old new Dump change = inr (kept old new change)
+change_keeps picks old new Compare change = inr (kept old new change)
+change_keeps picks old new (Order level) change = inr (kept old new change)
+change_keeps picks old new (Diagram level) change = inr (kept old new change)
+change_keeps picks old new (Proof level) change = inr (kept old new change)
+change_keeps picks old new (Cluster id level) change = inr (kept old new change)
+change_keeps picks old new (Ancestors id level) change = inr (kept old new change)
+change_keeps picks old new (Descendants id level) change = inr (kept old new change)
+change_keeps picks old new (Chunk id) change = inr (kept old new change)
+change_keeps picks old new (Before a b) change = inr (kept old new change)
+change_keeps picks old new (Block size) change = inr (kept old new change)
+change_keeps picks old new (Count level) change = inr (kept old new change)
+
+-- an accepted command leaves how many names a cluster may be allowed, and so does a step
+change_most : (old new : PlainState) (command : Command) → SetsOrKeeps old command new → new.most ≡ old.most
+change_most old new command change = elim change [ inl sets ↦ ap (λ (p : PlainState). p.most) sets.2 | inr keeps ↦ keeps.1 ]
+
+pub step_most : (old new : State) (command : Command) (reply : Reply) → Step old command reply new → new.plain.most ≡ old.plain.most
+step_most old new command reply step = elim step [
+  | inl refused ↦ ap (λ (s : State). s.plain.most) refused.same
+  | inr rest ↦ elim rest [
+    | inl want ↦ elim want [ inl lacks ↦ ap (λ (s : State). s.plain.most) lacks.same | inr gives ↦ ap (λ (s : State). s.plain.most) gives.same ]
+    | inr fine ↦ change_most old.plain new.plain command (change_keeps old.picks old.plain new.plain command fine.accepts.plain.change)
+  ]
+]
 
 -- The command isn't a `limits` after which a dependency may pass them.
 abbrev pub IsStrict : Command → Type 0
 IsStrict command = (bounds : Bounds) → command ≡ SetLimits bounds → bounds.defer ≡ false
 
 -- where no dependency may pass the limits, none may after such a change
-change_strict : (picks : Picks) (old new : PlainState) (command : Command) → IsStrict command → Changes picks old command new
+change_strict : (old new : PlainState) (command : Command) → IsStrict command → SetsOrKeeps old command new
     → old.limits.defer ≡ false → new.limits.defer ≡ false
-change_strict picks old new command strict change before = by command strict change
-  where
-    along : new.limits ≡ old.limits → new.limits.defer ≡ false
-    along is = ap (λ (b : Bounds). b.defer) is ∙ before
-
-    by : (command : Command) → IsStrict command → Changes picks old command new → new.limits.defer ≡ false
-    by (SetLimits limits) strict change = ap (λ (p : PlainState). p.limits.defer) change ∙ strict limits refl
-    by (Add id fee size) strict change = along (kept _ new change ∙ top_keeps _ _)
-    by (Dep parent child) strict change = elim change [
-      | inl there ↦ along (kept (begun old) new there.1)
-      | inr fresh ↦ along (kept _ new fresh.1 ∙ top_keeps (begun old) _)
-    ]
-    by (SetFee id fee) strict change = along (kept _ new change)
-    by (Remove id) strict change = along (forgets_keeps (with_top (begun old) change.0) new change.2 ∙ top_keeps (begun old) change.0)
-    by (Mine ids) strict change = along (forgets_keeps _ new change.2.2)
-    by Evict strict change = along (forgets_keeps _ new change.4.2)
-    by Stage strict change = along (kept _ new change)
-    by Commit strict change = along (forgets_keeps _ new change)
-    by Abort strict change = along (forgets_keeps _ new change)
-    by Settle strict change = elim change [ inl better ↦ along (forgets_keeps _ new better.1) | inr other ↦ along (forgets_keeps _ new other.1) ]
-    by Trim strict change = along (lessened_keeps old new change.0 change.2)
-    by Unmine strict change = along (kept _ new change.3.same)
-    by Dump strict change = along (kept old new change)
-    by Compare strict change = along (kept old new change)
-    by (Order level) strict change = along (kept old new change)
-    by (Diagram level) strict change = along (kept old new change)
-    by (Proof level) strict change = along (kept old new change)
-    by (Cluster id level) strict change = along (kept old new change)
-    by (Ancestors id level) strict change = along (kept old new change)
-    by (Descendants id level) strict change = along (kept old new change)
-    by (Chunk id) strict change = along (kept old new change)
-    by (Before a b) strict change = along (kept old new change)
-    by (Block size) strict change = along (kept old new change)
-    by (Count level) strict change = along (kept old new change)
+change_strict old new command strict change before = elim change [
+  | inl sets ↦ ap (λ (p : PlainState). p.limits.defer) sets.2 ∙ strict sets.0 sets.1
+  | inr keeps ↦ ap (λ (b : Bounds). b.defer) keeps.0 ∙ before
+]
 
 step_strict : (old new : State) (command : Command) (reply : Reply) → IsStrict command → Step old command reply new
     → old.plain.limits.defer ≡ false → new.plain.limits.defer ≡ false
@@ -77,13 +108,21 @@ step_strict old new command reply strict step before = elim step [
       | inl lacks ↦ ap (λ (s : State). s.plain.limits.defer) lacks.same ∙ before
       | inr gives ↦ ap (λ (s : State). s.plain.limits.defer) gives.same ∙ before
     ]
-    | inr fine ↦ change_strict old.picks old.plain new.plain command strict fine.accepts.plain.change before
+    | inr fine ↦
+        change_strict old.plain new.plain command strict (change_keeps old.picks old.plain new.plain command fine.accepts.plain.change) before
   ]
 ]
 
 -- ---- lines, and generated commands
 
--- the same after a line that sets no limits which a dependency may pass
+-- a line leaves how many names a cluster may be allowed
+pub line_most : (old new : State) (line : List ℕ) (answer : Answer) → LineStep old line answer new → new.plain.most ≡ old.plain.most
+line_most old new line Silence step = ap (λ (s : State). s.plain.most) step.2
+line_most old new line TooLong step = ap (λ (s : State). s.plain.most) step.1
+line_most old new line Unread step = ap (λ (s : State). s.plain.most) step.2
+line_most old new line (Replies reply) (short, command, means, step) = step_most old new command reply step
+
+-- where no dependency may pass the limits, none may after a line that sets none which one may pass
 pub line_strict : (old new : State) (line : List ℕ) (answer : Answer)
     → ((bounds : Bounds) → Means line (Says (SetLimits bounds)) → bounds.defer ≡ false) → LineStep old line answer new
     → old.plain.limits.defer ≡ false → new.plain.limits.defer ≡ false
@@ -109,7 +148,7 @@ drawn_strict k x =
     (of_two (Commit, kind.1) _ (kind.0 == 17) (λ _ e. cc)
     (of_two (Abort, kind.1) (Compare, kind.1) (kind.0 == 18) (λ _ e. cc) (λ _ e. cc)))))))
 
--- the same after generated commands, however they are answered
+-- nor after generated commands, however they are answered
 pub generated_strict : (n x k : ℕ) (old end : State) (replies : List Reply) → CommandsRun old (commands_from x k n) replies end
     → old.plain.limits.defer ≡ false → end.plain.limits.defer ≡ false
 generated_strict zero x k old end [] run before = ap (λ (s : State). s.plain.limits.defer) run ∙ before

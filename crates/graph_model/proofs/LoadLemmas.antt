@@ -140,14 +140,14 @@ module _ (most : ℕ) (bounds : Bounds) (text : DumpText) (types : HasDumpTypes 
   over_loaded = over_along bounds bounds (λ id. (rate id).size) (size_of state.table) loaded state.main refl name_is
       (connected_to (rate_of state.table) rate state.main loaded alike) sizes
 
-  module _ (wide : most ≤ MAX_COUNT) (in_range : AreInRange most bounds) where
+  module _ (in_range : AreInRange most bounds) where
     pub valid_loaded : IsValid state
-    valid_loaded = valid_restored first state text.txs text.edges (valid_at_start most bounds wide in_range) can_come restores
+    valid_loaded = valid_restored first state text.txs text.edges (valid_at_start most bounds in_range) can_come restores
         (λ strict over. fits.within strict (over_loaded over))
 
 -- ---- what is written
 
-module _ (most : ℕ) (bounds : Bounds) (text : DumpText) (wide : most ≤ MAX_COUNT) (in_range : AreInRange most bounds)
+module _ (most : ℕ) (bounds : Bounds) (text : DumpText) (in_range : AreInRange most bounds)
     (types : HasDumpTypes text) (is : IsGraphText text) (fits : FitsBounds bounds text) (state : State) (to : LoadsTo most bounds text state) where
   abbrev own : ℕ → Sum
   own = rate_of state.plain.table
@@ -162,7 +162,7 @@ module _ (most : ℕ) (bounds : Bounds) (text : DumpText) (wide : most ≤ MAX_C
   back = alike_back own told state.plain.main (loaded_graph text) agrees
 
   pub valid_made : IsValidState state
-  valid_made = record { plain = valid_loaded most bounds text types is fits state.plain to.plain wide in_range; picks = to.picks }
+  valid_made = record { plain = valid_loaded most bounds text types is fits state.plain to.plain in_range; picks = to.picks }
 
   covers_to : (order : List ℕ) (edges : List (ℕ × ℕ)) → ListsCovers state.plain.main order edges → ListsCovers (loaded_graph text) order edges
   covers_to order edges covers = record {
@@ -174,9 +174,9 @@ module _ (most : ℕ) (bounds : Bounds) (text : DumpText) (wide : most ≤ MAX_C
   }
 
   -- the text that proves a pick of main
-  proves_pick : (pick : List Part) (proof : Text) → pick_of state.picks Main ≡ Some pick → ProvesOrder state.plain.table state.plain.main pick proof
+  proves_pick : most ≤ MAX_COUNT → (pick : List Part) (proof : Text) → pick_of state.picks Main ≡ Some pick → ProvesOrder state.plain.table state.plain.main pick proof
       → ProvesLoaded text proof
-  proves_pick pick proof picked proves =
+  proves_pick wide pick proof picked proves =
       let are : AreBest state.plain Main pick = best state Main pick valid_made picked in
       let order : IsOptimal own state.plain.main (map (λ (p : Part). p.ids) pick) = are.optimal in
       let sorted : (id : ℕ) → Contains (order_of pick) id → Contains state.plain.main.names id =
@@ -193,29 +193,30 @@ module _ (most : ℕ) (bounds : Bounds) (text : DumpText) (wide : most ≤ MAX_C
             let here : Contains pick part = subst (λ parts. Contains parts part) proves.parts listed in
             are.summed part here ∙ sums_along own told part.ids
             (λ id inside. agrees.sums id (sorted id (flat_has (λ (p : Part). p.ids) pick part id here inside)));
-        certified = proofs_are_certificates state Main pick proof valid_made picked proves;
+        certified = proofs_are_certificates state Main pick proof
+            (subst (λ m. m ≤ MAX_COUNT) (sym (ap (λ (s : PlainState). s.most) to.plain.same)) wide) valid_made picked proves;
       }
 
   none_over_main : (HasOver bounds (λ id. (told id).size) (loaded_graph text) → ⊥) → HasOver state.plain.limits (size_of state.plain.table) state.plain.main → ⊥
   none_over_main none over = none (over_loaded most bounds text types is fits state.plain to.plain
       (subst (λ (l : Bounds). HasOver l (size_of state.plain.table) state.plain.main) (ap (λ (s : PlainState). s.limits) to.plain.same) over))
 
-  pub written : (HasOver bounds (λ id. (told id).size) (loaded_graph text) → ⊥) → (reply : Reply) → Step state (Proof Main) reply state
+  pub written : most ≤ MAX_COUNT → (HasOver bounds (λ id. (told id).size) (loaded_graph text) → ⊥) → (reply : Reply) → Step state (Proof Main) reply state
       → (proof : Text) × (reply ≡ Proves proof) × ProvesLoaded text proof
-  written none reply step = elim step [
+  written wide none reply step = elim step [
     | inl refused ↦ absurd (elim refused.first [ inl over ↦ none_over_main none over.0 | inr free ↦ some_none refused.why free.1 ])
     | inr rest ↦ elim rest [
       | inl want ↦ absurd (elim want [ inl lacks ↦ lacks.may | inr gives ↦ gives.may ])
-      | inr fine ↦ let answer = fine.accepts.plain.answer in (answer.1, answer.4, proves_pick answer.0 answer.1 answer.2 answer.3)
+      | inr fine ↦ let answer = fine.accepts.plain.answer in (answer.1, answer.4, proves_pick wide answer.0 answer.1 answer.2 answer.3)
     ]
   ]
 
 pub loads_prove : LoadsProve
 loads_prove = record {
-  valid = λ most bounds bytes text state wide in_range found to. valid_made most bounds text wide in_range found.0.1 found.1 found.2 state to;
+  valid = λ most bounds bytes text state in_range found to. valid_made most bounds text in_range found.0.1 found.1 found.2 state to;
   alike = λ most bounds bytes text state found to. alike most bounds text found.0.1 found.1 found.2 state.plain to.plain;
   dumped = λ most bounds bytes text state found to. dumped most bounds text found.0.1 found.1 found.2 state.plain to.plain;
   proves = λ most bounds bytes out text wide in_range found none writes.
-      let made = written most bounds text wide in_range found.0.1 found.1 found.2 writes.0 writes.2 none writes.1 writes.3 in
+      let made = written most bounds text in_range found.0.1 found.1 found.2 writes.0 writes.2 wide none writes.1 writes.3 in
       (made.0, writes.4 ∙ ap text_of made.1, made.2);
 }

@@ -166,7 +166,6 @@ module _ (old new : PlainState) (valid : IsValid old) (can : CanUnmine old) (blo
   valid_taken : IsValid taken
   valid_taken = record {
     limits = valid.limits;
-    most = valid.most;
     main = same_level old taken old.main refl (λ id here. refl) valid.main;
     staging = subst (IsStaging taken) (sym can.alone) tt;
     live = valid.live;

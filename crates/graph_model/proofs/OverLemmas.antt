@@ -60,7 +60,7 @@ component_same : (a b : PlainState) → IsSameState a b → (id : ℕ) (ids : Li
 component_same a b same id ids = Lists-for (AreConnected a.main.pairs id) (AreConnected b.main.pairs id) ids (linked_to a.main b.main same.main id)
     (linked_to b.main a.main (back a.main b.main same.main) id)
 
-over_along : (a b : PlainState) (id : ℕ) (why : Refusal) → IsSameState a b → IsInOver a id why → IsInOver b id why
+pub over_along : (a b : PlainState) (id : ℕ) (why : Refusal) → IsSameState a b → IsInOver a id why → IsInOver b id why
 over_along a b id why same (ids, all, told) = (
   ids,
   component_same a b same id ids all,

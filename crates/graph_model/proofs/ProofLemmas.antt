@@ -25,6 +25,7 @@ use Rattle.graphs.proofs.TangentLemmas.{joined}
 use Rattle.lists.proofs.Flats.{flat_has}
 use Rattle.graphs.proofs.AlikeLemmas.{sums_along}
 use Rattle.graphs.proofs.BestLemmas.{covers_are_pairs, joined_distinct, joined_ids, part_front_closed}
+use Rattle.graph_model.specs.declared.limits.TheConstants.{MAX_COUNT}
 use Rattle.graph_model.specs.States.{PlainState, State, level_of, pick_of, top_of, size_of, rate_of, IsLive}
 use Rattle.graph_model.specs.Changes.{IsKept}
 use Rattle.graph_model.specs.Answers.{order_of, ProvesOrder, ListsCovers}
@@ -55,7 +56,8 @@ all_mapped f xs plain line here = let found = map-Contains f xs line here in sub
 all_appended : (xs ys : List (List ℕ)) → AllPlain xs → AllPlain ys → AllPlain (xs ++ ys)
 all_appended xs ys one two line here = elim (Contains-append_cases xs ys line here) [ inl first ↦ one line first | inr later ↦ two line later ]
 
-module _ (plain : PlainState) (graph : Graph) (pick : List Part) (edges : List (ℕ × ℕ)) (valid : IsValid plain) (level : IsLevel plain graph)
+module _ (plain : PlainState) (graph : Graph) (pick : List Part) (edges : List (ℕ × ℕ)) (wide : plain.most ≤ MAX_COUNT)
+    (valid : IsValid plain) (level : IsLevel plain graph)
     (none : HasOver plain.limits (size_of plain.table) graph → ⊥)
     (inside : (id : ℕ) → Contains graph.names id → IsKept plain id)
     (picked : IsPick (rate_of plain.table) graph pick) (covers : ListsCovers graph (order_of pick) edges) where
@@ -101,7 +103,7 @@ module _ (plain : PlainState) (graph : Graph) (pick : List Part) (edges : List (
         once = part_once part here;
         inside = λ id there. (sorted.names id).0 (in_order part id here there);
         together = picked.certificate.order.together part here;
-      }) in omega (arith, fits.0, valid.limits.count_high, valid.most)
+      }) in omega (arith, fits.0, valid.limits.count_high, wide)
 
   part_sum : (part : Part) → Contains pick part → IsSmallSum (sums rate part.ids)
   part_sum part here = small_sum rate part.ids (few_names part here) (λ id there. in_range id (in_order part id here there))
@@ -274,18 +276,19 @@ pub level_pick : (state : State) (level : Level) (pick : List Part) → IsValidS
 level_pick state Main pick valid is = subst (IsPickOf state.plain.limits state.plain.table state.plain.main) is valid.picks.main
 level_pick state Top pick valid is = subst (IsPickOf state.plain.limits state.plain.table (level_of state.plain Top)) is (top_pick state valid)
 
-of_level : (plain : PlainState) (graph : Graph) (pick : List Part) (text : Text) → IsValid plain
+of_level : (plain : PlainState) (graph : Graph) (pick : List Part) (text : Text) → plain.most ≤ MAX_COUNT → IsValid plain
     → IsLevel plain graph → (HasOver plain.limits (size_of plain.table) graph → ⊥) → ((id : ℕ) → Contains graph.names id → IsKept plain id)
     → IsPick (rate_of plain.table) graph pick → ProvesOrder plain.table graph pick text → Verifies (text_lines text) (Found Certified)
-of_level plain graph pick text valid level none inside picked proves =
+of_level plain graph pick text wide valid level none inside picked proves =
     let same : record { txs = map (tx_of (rate_of plain.table)) (order_of pick); edges = text.edges; parts = pick } ≡ text =
     λ i. record { txs = sym proves.txs i; edges = text.edges; parts = sym proves.parts i } in
-    subst (λ (t : Text). Verifies (text_lines t) (Found Certified)) same (verified plain graph pick text.edges valid level none inside picked proves.edges)
+    subst (λ (t : Text). Verifies (text_lines t) (Found Certified)) same (verified plain graph pick text.edges wide valid level none inside picked
+    proves.edges)
 
 pub proofs_are_certificates : ProofsAreCertificates
-proofs_are_certificates state Main pick text valid is proves =
+proofs_are_certificates state Main pick text wide valid is proves =
     let picked = level_pick state Main pick valid is in
-    of_level state.plain state.plain.main pick text valid.plain valid.plain.main picked.0 (λ id here. inl here) picked.1 proves
-proofs_are_certificates state Top pick text valid is proves =
+    of_level state.plain state.plain.main pick text wide valid.plain valid.plain.main picked.0 (λ id here. inl here) picked.1 proves
+proofs_are_certificates state Top pick text wide valid is proves =
     let picked = level_pick state Top pick valid is in
-    of_level state.plain (level_of state.plain Top) pick text valid.plain (top_level state.plain valid.plain) picked.0 (λ id here. inr here) picked.1 proves
+    of_level state.plain (level_of state.plain Top) pick text wide valid.plain (top_level state.plain valid.plain) picked.0 (λ id here. inr here) picked.1 proves

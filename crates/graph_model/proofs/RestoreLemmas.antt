@@ -260,7 +260,6 @@ module _ (old new : PlainState) (txs : Txs) (pairs : List (ℕ × ℕ)) (valid :
     valid_next : IsValid next
     valid_next = record {
       limits = valid.limits;
-      most = valid.most;
       main = record { whole = whole; names = small; within = none };
       staging = subst (IsStaging next) (sym can.alone) tt;
       live = λ id. (

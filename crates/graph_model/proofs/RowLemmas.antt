@@ -26,6 +26,14 @@ first_at_along why same more row = elim row [
   | inr on ↦ inr (λ n holds. on.0 n ((same n).1 holds), more on.1)
 ]
 
+pub first_of_along : {C C' : Refusal → Type 0} {L L' : Type 0} {found : Option Refusal} → ((why : Refusal) → C why ↔ C' why) → (L → L')
+    → ((why : Refusal) × C why × (found ≡ Some why)) ⊎ (((why : Refusal) → C why → ⊥) × L)
+    → ((why : Refusal) × C' why × (found ≡ Some why)) ⊎ (((why : Refusal) → C' why → ⊥) × L')
+first_of_along same more row = elim row [
+  | inl here ↦ inl (here.0, (same here.0).0 here.1, here.2)
+  | inr on ↦ inr (λ why holds. on.0 why ((same why).1 holds), more on.1)
+]
+
 pub add_row_along : (f s t l u f' s' t' l' u' : Type 0) (size : ℕ) (found : Option Refusal) → f ↔ f' → s ↔ s' → t ↔ t' → l ↔ l' → u ↔ u'
     → AddRow f s t l u size found → AddRow f' s' t' l' u' size found
 add_row_along f s t l u f' s' t' l' u' size found fs ss ts ls us =

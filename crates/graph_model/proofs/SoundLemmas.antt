@@ -26,10 +26,11 @@ use Rattle.graph_model.specs.Runs.{Answer, Silence, TooLong, Unread, Replies, Li
 use Rattle.graph_model.specs.RunLaws.{AreBest, TellsBest, RunsAreSound}
 use Rattle.graph_model.proofs.ProofLemmas.{level_pick}
 use Rattle.graph_model.proofs.StepLemmas.{steps_keep_valid}
+use Rattle.graph_model.proofs.LimitLemmas.{line_most}
 
 -- ---- runs
 
-line_valid : (old new : State) (line : List ℕ) (answer : Answer) → IsValidState old → LineStep old line answer new → IsValidState new
+pub line_valid : (old new : State) (line : List ℕ) (answer : Answer) → IsValidState old → LineStep old line answer new → IsValidState new
 line_valid old new line Silence valid step = subst IsValidState (sym step.2) valid
 line_valid old new line TooLong valid step = subst IsValidState (sym step.1) valid
 line_valid old new line Unread valid step = subst IsValidState (sym step.2) valid
@@ -41,6 +42,13 @@ run_valid old new [] (answer ∷ answers) valid none = absurd none
 run_valid old new (line ∷ lines) [] valid none = absurd none
 run_valid old new (line ∷ lines) (answer ∷ answers) valid run =
     run_valid run.0 new lines answers (line_valid old run.0 line answer valid run.1) run.2
+
+run_most : (old new : State) (lines : List (List ℕ)) (answers : List Answer) → Run old lines answers new → new.plain.most ≡ old.plain.most
+run_most old new [] [] same = ap (λ (s : State). s.plain.most) same
+run_most old new [] (answer ∷ answers) none = absurd none
+run_most old new (line ∷ lines) [] none = absurd none
+run_most old new (line ∷ lines) (answer ∷ answers) run =
+    run_most run.0 new lines answers run.2 ∙ line_most old run.0 line answer run.1
 
 -- ---- orders
 
@@ -158,6 +166,7 @@ step_tells old new command reply valid step = elim step [
 
 pub runs_are_sound : RunsAreSound
 runs_are_sound = record {
-  valid = λ most lines answers end low high run. run_valid (start most) end lines answers (steps_keep_valid.begins most low high) run;
+  valid = λ most lines answers end low run. run_valid (start most) end lines answers (steps_keep_valid.begins most low) run;
+  most = λ most lines answers end run. run_most (start most) end lines answers run;
   best = step_tells;
 }

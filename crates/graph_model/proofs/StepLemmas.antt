@@ -23,12 +23,12 @@ use Rattle.graph_model.specs.Refusals.{RefusalIs}
 use Rattle.graph_model.specs.Replies.{Reply}
 use Rattle.graph_model.specs.Changes.{begun, with_fee, staged, Forgets, Removes, DropsFromTop, Commits, Aborts, Changes}
 use Rattle.graph_model.specs.Steps.{Step, PicksFollow, CommitsPick}
-use Rattle.graph_model.specs.declared.limits.TheConstants.{MAX_COUNT}
 use Rattle.graph_model.specs.Oversize.{AreOfOneComponent, HasOver}
 use Rattle.graph_model.specs.Validity.{IsLevel, IsStaging, IsValid, IsPickOf, IsStagingPick, ArePicks, IsValidState}
 use Rattle.graph_model.specs.Laws.{StepsKeepValid}
 use Rattle.graph_model.proofs.LevelLemmas.{same_level, level_within, over_along, AreWithin, none_over, connects, one_pair, two_pairs}
 use Rattle.graph_model.proofs.ValidLemmas.{row_on, get-put_same, get-put_other, top_level, staging_along, forgets_valid, valid_limited}
+use Rattle.graph_model.proofs.LimitLemmas.{step_most}
 use Rattle.graph_model.proofs.ChangeLemmas.{of_top, top_main, top_is, fee_stable, valid_begun, valid_added, valid_paired}
 use Rattle.graph_model.proofs.MinedLemmas.{not_staged, valid_dropped, valid_mined, valid_unmined}
 
@@ -73,7 +73,6 @@ module _ (old : PlainState) (id : ℕ) (fee : ℤ) (valid : IsValid old) (row : 
   pub valid_paid : IsValid (with_fee old id fee)
   valid_paid = record {
     limits = valid.limits;
-    most = valid.most;
     main = same_level old (with_fee old id fee) old.main refl (λ q here. same_size q) valid.main;
     staging = staging_along old (with_fee old id fee) old.staging refl (λ graph is q here. same_size q) valid.staging;
     live = λ q. (λ now. (valid.live q).0 (sym (same_live q) ∙ now), λ kept. same_live q ∙ (valid.live q).1 kept);
@@ -145,7 +144,6 @@ valid_lessened old new (id ∷ ids) valid (graph, without, forgets) =
 valid_staged : (old : PlainState) → IsValid old → old.staging ≡ None → IsValid (staged old)
 valid_staged old valid alone = record {
   limits = valid.limits;
-  most = valid.most;
   main = same_level old (staged old) old.main refl (λ q here. refl) valid.main;
   staging = same_level old (staged old) old.main refl (λ q here. refl) valid.main;
   live = λ q. (
@@ -332,7 +330,7 @@ step_valid old new command reply types valid step = elim step [
 -- ---- the start
 
 -- a state without names under limits that are in range
-module _ (most : ℕ) (limits : Bounds) (wide : most ≤ MAX_COUNT) (in_range : AreInRange most limits) where
+module _ (most : ℕ) (limits : Bounds) (in_range : AreInRange most limits) where
   abbrev first : PlainState
   first = record (plain_start most) { limits = limits }
 
@@ -346,7 +344,6 @@ module _ (most : ℕ) (limits : Bounds) (wide : most ≤ MAX_COUNT) (in_range : 
   pub valid_at_start : IsValid first
   valid_at_start = record {
     limits = in_range;
-    most = wide;
     main = record {
       whole = record {
         names = tt;
@@ -394,8 +391,8 @@ module _ (most : ℕ) (limits : Bounds) (wide : most ≤ MAX_COUNT) (in_range : 
     staging = tt;
   }
 
-start_valid : (most : ℕ) → default_limits.count ≤ most → most ≤ MAX_COUNT → IsValidState (start most)
-start_valid most low high =
+start_valid : (most : ℕ) → default_limits.count ≤ most → IsValidState (start most)
+start_valid most low =
     let in_range : AreInRange most default_limits = record {
       count_low = omega arith;
       count_high = low;
@@ -404,7 +401,7 @@ start_valid most low high =
       total_low = omega arith;
       total_high = omega arith;
     } in
-    record { plain = valid_at_start most default_limits high in_range; picks = picks_at_start most default_limits high in_range }
+    record { plain = valid_at_start most default_limits in_range; picks = picks_at_start most default_limits in_range }
 
 pub steps_keep_valid : StepsKeepValid
-steps_keep_valid = record { begins = start_valid; goes_on = step_valid }
+steps_keep_valid = record { begins = start_valid; goes_on = step_valid; most = step_most }

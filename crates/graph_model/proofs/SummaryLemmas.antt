@@ -19,7 +19,8 @@ use Rattle.graph_model.proofs.OneRefusal.{one_refusal}
 use Rattle.graph_model.proofs.StepLemmas.{steps_keep_valid}
 use Rattle.graph_model.proofs.SameLemmas.{state_back, of_equal}
 use Rattle.graph_model.proofs.FunctionLemmas.{steps_are_functions, one_diagram, same_count}
-use Rattle.graph_model.proofs.DrawnLemmas.{IsDrawn, drawn, drawn_types, drawn_reads, drawn_no_evict, refused_alike}
+use Rattle.graph_model.proofs.DrawnLemmas.{IsDrawn, drawn, drawn_types, drawn_reads, drawn_no_evict}
+use Rattle.graph_model.proofs.RefusedLemmas.{refused_along}
 
 -- ---- one step
 
@@ -61,12 +62,12 @@ step_once a b a' b' command ra rb is valid_a valid_b same enough_a enough_b one 
       of_equal a.plain b.plain a'.plain b'.plain (ap (λ (s : State). s.plain) x.same) (ap (λ (s : State). s.plain) y.same) same,
       x.told ∙ sym y.told,
     )
-    | inr y ↦ absurd (no_reason x.why (one_refusal b.plain command (Some x.why) None (refused_alike a.plain b.plain same (Some x.why) command is x.first) y.none))
+    | inr y ↦ absurd (no_reason x.why (one_refusal b.plain command (Some x.why) None (refused_along a.plain b.plain same (Some x.why) command x.first) y.none))
   ]
   | inr x ↦ elim (split b b' command rb enough_b two) [
     | inl y ↦ absurd (no_reason y.why
         (one_refusal a.plain command (Some y.why) None
-        (refused_alike b.plain a.plain (state_back a.plain b.plain same) (Some y.why) command is y.first) x.none))
+        (refused_along b.plain a.plain (state_back a.plain b.plain same) (Some y.why) command y.first) x.none))
     | inr y ↦ (
       steps_are_functions.states a.picks b.picks a.plain b.plain a'.plain b'.plain command ra rb valid_a.plain valid_b.plain same
           (drawn_no_evict command is) x.accepts y.accepts,
@@ -187,8 +188,8 @@ summaries_are_functions = record {
       let accepted = told.accepted in
       let refused = told.refused in
       omega (arith, both, all, accepted, refused);
-  one = λ most seed count a b low high range (ra, end_a, run_a, told_a) (rb, end_b, run_b, told_b) none_a none_b.
-      let valid = steps_keep_valid.begins most low high in
+  one = λ most seed count a b low range (ra, end_a, run_a, told_a) (rb, end_b, run_b, told_b) none_a none_b.
+      let valid = steps_keep_valid.begins most low in
       let few = range.1 in
       summed_up end_a end_b ra rb a b
       (runs_alike seed 1 count (start most) (start most) end_a end_b ra rb (omega (arith, few)) valid valid (start_same most) (sym told_a.memory ∙ none_a)

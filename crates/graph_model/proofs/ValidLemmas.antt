@@ -12,7 +12,7 @@ use Rattle.lists.proofs.Keys.{len-within}
 use Rattle.lists.proofs.Told.{told_number}
 use Rattle.lists.proofs.Entries.{Contains-head, none_in_empty}
 use Rattle.graphs.specs.declared.names.Level.TheVariants.{Top}
-use Rattle.graph_model.specs.declared.limits.TheConstants.{MAX_BLOCKS, MAX_COUNT}
+use Rattle.graph_model.specs.declared.limits.TheConstants.{MAX_BLOCKS}
 use Rattle.graph_model.specs.declared.names.Refusal.{Refusal}
 use Rattle.graphs.specs.Graphs.{Graph, Trail, IsGraph}
 use Rattle.graph_model.specs.Limits.{Bounds, AreInRange}
@@ -97,7 +97,6 @@ module _ (old mid new : PlainState) (valid : IsValid old) (table : mid.table ≡
   valid_left : IsValid left
   valid_left = record {
     limits = subst (λ (l : Bounds). AreInRange mid.most l) (sym limits) (subst (λ m. AreInRange m old.limits) (sym most) valid.limits);
-    most = subst (λ m. m ≤ MAX_COUNT) (sym most) valid.most;
     main = same_level mid left mid.main refl (λ id here. sizes id (inl here)) main;
     staging = staging_along mid left mid.staging refl (λ graph is id here. sizes id (inr (in_top mid graph id is here))) staging;
     live = λ id. (live_kept id, λ kept. ap is_some (same_entry id kept) ∙ (valid.live id).1 (inside id kept));
@@ -160,7 +159,6 @@ valid_limited old limits valid row =
     let zero_live : finmap.len {X = Entry} {R = nat_cmp} finmap.empty ≡ 0 = finmap.len-empty nat_cmp Entry in
     record {
       limits = in_range;
-      most = valid.most;
       main = record {
         whole = valid.main.whole;
         names = valid.main.names;

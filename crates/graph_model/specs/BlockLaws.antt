@@ -1,4 +1,4 @@
--- What a block takes first is the best of its size.
+-- What a block takes first is the front of the order, and pays the most of its size.
 use Rattle.std.specs.Prelude.{◌≡◌, ℕ, ◌+◌, ◌<◌, ◌≤◌, pos, ◌≤ℤ◌, ◌⊎◌, List, [], ◌∷◌, ◌++◌, map}
 use Rattle.fee_rate.specs.declared.rates.Sum.{Sum}
 use Rattle.graphs.specs.Graphs.{Graph}

@@ -2,7 +2,6 @@
 use Rattle.std.specs.Prelude.{◌≡◌, ℕ, ◌≤◌, List, ◌++◌, Option}
 use Rattle.graph_model.specs.declared.names.Refusal.{Refusal}
 use Rattle.graph_model.specs.declared.names.Refusal.TheVariants.{Memory}
-use Rattle.graph_model.specs.declared.limits.TheConstants.{MAX_COUNT}
 use Rattle.graph_model.specs.Limits.{default_limits}
 use Rattle.graph_model.specs.States.{PlainState, State, start}
 use Rattle.graph_model.specs.Commands.{Command, HasTypes}
@@ -32,7 +31,9 @@ abbrev pub RowsAreFunctions : Type 0
 RowsAreFunctions = (state : PlainState) (command : Command) (one other : Option Refusal)
     → RefusalIs state command one → RefusalIs state command other → one ≡ other
 
--- A start is valid, and a step from a valid state leads to a valid one, where the command's numbers are of their types.
+-- A start is valid, and a step from a valid state leads to a valid one, where the command's numbers are of their types. How many names a
+-- cluster may be allowed stays as it was at the start.
 pub record StepsKeepValid : Type 0 where
-  pub begins : (most : ℕ) → default_limits.count ≤ most → most ≤ MAX_COUNT → IsValidState (start most)
+  pub begins : (most : ℕ) → default_limits.count ≤ most → IsValidState (start most)
   pub goes_on : (old new : State) (command : Command) (reply : Reply) → HasTypes command → IsValidState old → Step old command reply new → IsValidState new
+  pub most : (old new : State) (command : Command) (reply : Reply) → Step old command reply new → new.plain.most ≡ old.plain.most

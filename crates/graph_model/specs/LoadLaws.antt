@@ -28,7 +28,7 @@ pub record ProvesLoaded (text : DumpText) (proof : Text) : Type 0 where
 -- Where no component is over the limits, as none is where no dependency may pass them, `load` writes a text that proves an optimal order of that
 -- graph. (That bytes spell one text, of which one thing is found, is part of `DumpsLoad`.)
 pub record LoadsProve : Type 0 where
-  pub valid : (most : ℕ) (bounds : Bounds) (bytes : List ℕ) (text : DumpText) (state : State) → most ≤ MAX_COUNT → AreInRange most bounds
+  pub valid : (most : ℕ) (bounds : Bounds) (bytes : List ℕ) (text : DumpText) (state : State) → AreInRange most bounds
       → FindsLoad bounds bytes (Loads text) → LoadsTo most bounds text state → IsValidState state
   pub alike : (most : ℕ) (bounds : Bounds) (bytes : List ℕ) (text : DumpText) (state : State) → FindsLoad bounds bytes (Loads text)
       → LoadsTo most bounds text state → AreAlike (rate_of state.plain.table) state.plain.main (rate_in text.txs) (loaded_graph text)

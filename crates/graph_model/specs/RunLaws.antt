@@ -6,7 +6,6 @@ use Rattle.graphs.specs.Rates.{sums}
 use Rattle.graphs.specs.Certificates.{Part}
 use Rattle.graphs.specs.Minimal.{AreMinimal}
 use Rattle.graphs.specs.Linearizations.{IsOptimal}
-use Rattle.graph_model.specs.declared.limits.TheConstants.{MAX_COUNT}
 use Rattle.graph_model.specs.Limits.{default_limits}
 use Rattle.graph_model.specs.States.{PlainState, State, start, level_of, rate_of}
 use Rattle.graph_model.specs.Commands.{Command, Evict, Order, Proof, Chunk, Block}
@@ -39,10 +38,11 @@ TellsBest state (Block size) (Built sum ids) =
     × (sum ≡ sums (rate_of state.table) ids)
 TellsBest state command reply = Unit {0}
 
--- Each state that a run leads to is valid, and so is each on its way, since a front of a run is a run. From a valid state, and so all along
--- a run, whatever a reply tells of an order it tells of an order that is optimal for the graph of that state, and the rate that it tells of
--- names is the sum of their fees and sizes in that state.
+-- Each state that a run leads to is valid, and so is each on its way, since a front of a run is a run; and a cluster may be allowed as many
+-- names there as at the start. From a valid state, and so all along a run, whatever a reply tells of an order it tells of an order that is
+-- optimal for the graph of that state, and the rate that it tells of names is the sum of their fees and sizes in that state.
 pub record RunsAreSound : Type 0 where
-  pub valid : (most : ℕ) (lines : List (List ℕ)) (answers : List Answer) (end : State) → default_limits.count ≤ most → most ≤ MAX_COUNT
+  pub valid : (most : ℕ) (lines : List (List ℕ)) (answers : List Answer) (end : State) → default_limits.count ≤ most
       → Run (start most) lines answers end → IsValidState end
+  pub most : (most : ℕ) (lines : List (List ℕ)) (answers : List Answer) (end : State) → Run (start most) lines answers end → end.plain.most ≡ most
   pub best : (old new : State) (command : Command) (reply : Reply) → IsValidState old → Step old command reply new → TellsBest old.plain command reply

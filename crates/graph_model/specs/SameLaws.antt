@@ -1,10 +1,12 @@
--- The plain part of a step is a function of the state, up to the order in which names and pairs are listed.
+-- The refusal that a command meets, and the plain part of a step, are functions of the state, up to the order in which names and pairs are listed.
 use Rattle.std.specs.Prelude.{◌≡◌, ◌≢◌, ◌↔◌, ℕ, List, [], ◌∷◌, Option, None, Some, Contains}
 use Rattle.std.specs.FinMap as finmap
 use Rattle.graphs.specs.Graphs.{Graph}
+use Rattle.graph_model.specs.declared.names.Refusal.{Refusal}
 use Rattle.graph_model.specs.States.{PlainState, Picks, MinedBlock}
 use Rattle.graph_model.specs.Commands.{Command, Evict, Order, Proof, Chunk, Before, Block}
 use Rattle.graph_model.specs.Replies.{Reply}
+use Rattle.graph_model.specs.Refusals.{RefusalIs}
 use Rattle.graph_model.specs.Steps.{AcceptsPlainly}
 use Rattle.graph_model.specs.Validity.{IsValid, ArePicks}
 
@@ -50,9 +52,11 @@ ReadsNoPick (Before a b) = ⊥
 ReadsNoPick (Block size) = ⊥
 ReadsNoPick command = Unit {0}
 
--- From valid states that are the same, whatever their picks, an accepted command leads to states that are the same, unless it is `evict`,
--- and gets the same reply, where that is read off no pick. With the same picks this is so of every command and every reply.
+-- In states that are the same, a command meets the same refusal, or none in both. From valid states that are the same, whatever their picks, an
+-- accepted command leads to states that are the same, unless it is `evict`, and gets the same reply, where that is read off no pick. With the
+-- same picks this is so of every command and every reply.
 pub record StepsAreFunctions : Type 0 where
+  pub refusals : (a b : PlainState) (command : Command) (found : Option Refusal) → IsSameState a b → RefusalIs a command found ↔ RefusalIs b command found
   pub states : (pa pb : Picks) (a b a' b' : PlainState) (command : Command) (ra rb : Reply) → IsValid a → IsValid b → IsSameState a b → command ≢ Evict
       → AcceptsPlainly pa a command ra a' → AcceptsPlainly pb b command rb b' → IsSameState a' b'
   pub replies : (pa pb : Picks) (a b a' b' : PlainState) (command : Command) (ra rb : Reply) → IsValid a → IsValid b → IsSameState a b → ReadsNoPick command

@@ -7,7 +7,7 @@ use Rattle.graphs.specs.Graphs.{Graph, HasNoCycle, IsGraph}
 use Rattle.graphs.specs.Certificates.{Part}
 use Rattle.graphs.specs.Picks.{IsPick}
 use Rattle.graphs.specs.Minimal.{AreMinimal}
-use Rattle.graph_model.specs.declared.limits.TheConstants.{MAX_BLOCKS, MAX_COUNT}
+use Rattle.graph_model.specs.declared.limits.TheConstants.{MAX_BLOCKS}
 use Rattle.graph_model.specs.Limits.{Bounds, AreInRange}
 use Rattle.graph_model.specs.States.{PlainState, Picks, MinedBlock, State, Table, Entry, IsLive, size_of, rate_of}
 use Rattle.graph_model.specs.Oversize.{HasOver}
@@ -39,7 +39,6 @@ pub record IsKeptBlock (block : MinedBlock) : Type 0 where
 -- no block.
 pub record IsValid (state : PlainState) : Type 0 where
   pub limits : AreInRange state.most state.limits
-  pub most : state.most ≤ MAX_COUNT
   pub main : IsLevel state state.main
   pub staging : IsStaging state state.staging
   pub live : (id : ℕ) → IsLive state id ↔ IsKept state id

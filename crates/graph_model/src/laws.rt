@@ -36,18 +36,18 @@ pub fn abort_leaves_main()
     ensures { AbortLeavesMain }
 {}
 
-/// The state at the start is valid, and a step from a valid state leads to a valid one.
+/// The state at the start is valid, and a step from a valid state leads to a valid one. How many names a cluster may be allowed stays as it was.
 pub fn steps_keep_valid()
     ensures { StepsKeepValid }
 {}
 
-/// The text that proves the order of a level is a certificate.
+/// The text that proves the order of a level is a certificate, where a cluster may be allowed no more names than any graph can allow it.
 pub fn proofs_are_certificates()
     ensures { ProofsAreCertificates }
 {}
 
-/// The same accepted command makes the same of states that differ in the order of names and pairs at most; and where it reads no
-/// pick, also of states that differ in picks.
+/// A command is refused for the same cause, or not, in states that differ in the order of names and pairs at most, and where it is accepted it
+/// makes the same of them; and where it reads no pick, also of states that differ in picks.
 pub fn steps_are_functions()
     ensures { StepsAreFunctions }
 {}
@@ -72,7 +72,8 @@ pub fn loads_prove()
     ensures { LoadsProve }
 {}
 
-/// What a block takes before it leaves a part out is the front of the order, and the best of its size.
+/// What a block takes before it leaves a part out is the front of the order; and where the last part of it pays at least 0, no closed set
+/// that is no larger pays more.
 pub fn blocks_begin_best()
     ensures { BlocksBeginBest }
 {}

@@ -125,9 +125,10 @@ impl<const W: usize> Levels<W> {
         self.shelves.is_oversized(level)
     }
 
-    /// How many names were added so far.
+    /// How many names were added so far. Sets of names have at most two words.
     pub fn issued(&self) -> u64
-        ensures { result ≡ self.now.issued }
+        ensures issued { result ≡ self.now.issued }
+        ensures narrow { W ≤ 2 }
     {
         let _shelves = &self.shelves;
         self.issued
@@ -452,10 +453,11 @@ impl<const W: usize> Levels<W> {
         self.shelves.names(level)
     }
 
-    /// The components of a level, each once. One within the limits is lent with its order, and one over them without. Takes no memory. It
-    /// costs the components of both levels.
+    /// The components of a level, each once. One within the limits is lent with its order, and one over them without. Sets of names have at
+    /// most two words. Takes no memory. It costs the components of both levels.
     pub fn components(&self, level: Level) -> RecordWalk<'_, W>
-        ensures { AreItsClusters (level_at self.now level).graph result }
+        ensures components { AreItsClusters (level_at self.now level).graph result }
+        ensures narrow { W ≤ 2 }
     {
         let _count = self.mains;
         self.shelves.components(level)
@@ -515,7 +517,8 @@ impl<const W: usize> Levels<W> {
     }
 
     /// How staging stands to main, by their diagrams. It costs the parts that stand in one level alone, where the last part of each
-    /// level that has one has a fee of at least 0, and else all parts. Neither level is over the limits. Takes no memory.
+    /// level that has one has a fee of at least 0; else also some of the worst that stand in both. Neither level is over the limits. Takes
+    /// no memory.
     pub fn compare(&self) -> Verdict
         requires staged { IsSome self.now.staging }
         requires within { IsWithin self.now Main × IsWithin self.now Top }

@@ -227,7 +227,7 @@ stands_at_start kept limits begun txs pairs = record {
   pairs = sym pairs;
   staging = refl;
   blocks = refl;
-  valid = (steps_keep_valid.begins MAX_NAMES (omega arith) (omega arith)).plain;
+  valid = (steps_keep_valid.begins MAX_NAMES (omega arith)).plain;
 }
 
 -- without a staging level both words speak of main

@@ -11,6 +11,7 @@ use Rattle.graphs.specs.Certificates.{Part, Finding, Certified, NoGraph, NoOrder
 use Rattle.graph_model.specs.Words.{spaced}
 use Rattle.graph_model.specs.Lines.{Cut, Means, Says, with_last, without_return, max_input}
 use Rattle.graph_model.specs.Commands.{Command, Proof, words_of}
+use Rattle.graph_model.specs.declared.limits.TheConstants.{MAX_COUNT}
 use Rattle.graph_model.specs.Limits.{AreInRange, default_limits}
 use Rattle.graph_model.specs.Dumps.{DumpText, Loads, FindsLoad}
 use Rattle.graph_model.specs.Loads.{LoadWrites}
@@ -25,8 +26,9 @@ use Rattle.graph_model.specs.Texts.{Text, Verification, NoSyntax, Found, Verifie
 use Rattle.replay.specs.declared.session.TheConstants.{MOST_NAMES}
 use Rattle.graph_model.proofs.ProofLemmas.{proofs_are_certificates}
 use Rattle.graph_model.proofs.StepLemmas.{steps_keep_valid}
-use Rattle.graph_model.proofs.LimitLemmas.{line_strict}
+use Rattle.graph_model.proofs.LimitLemmas.{line_most, line_strict}
 use Rattle.graph_model.proofs.LoadLemmas.{loads_prove}
+use Rattle.graph_model.proofs.SoundLemmas.{line_valid}
 use Rattle.graph_model.proofs.ValidLemmas.{top_level}
 use Rattle.graph_model.specs.Oversize.{IsOversized}
 use Rattle.wire.proofs.CommandLemmas.{one_command}
@@ -140,20 +142,26 @@ proof_reply old new level reply fits step = elim step [
   ]
 ]
 
-step_accepted : {K : Type 0} (written : K → Option (List ℕ)) (old new : State) (level : Level) (reply : Reply) → IsValidState old
+-- a valid state, where a cluster may be allowed at most as many names as any graph can allow it
+record MayProve (state : State) : Type 0 where
+  valid : IsValidState state
+  wide : state.plain.most ≤ MAX_COUNT
+
+-- the text of a proof there is accepted
+step_accepted : {K : Type 0} (written : K → Option (List ℕ)) (old new : State) (level : Level) (reply : Reply) → MayProve old
     → (IsOversized old.plain level → ⊥) → Step old (Proof level) reply new → AreAccepted written (text_of reply)
-step_accepted written old new level reply valid fits step =
+step_accepted written old new level reply may fits step =
     let (pick, text, picked, proves, is) = proof_reply old new level reply fits step in
     subst (λ (r : Reply). AreAccepted written (text_of r)) (sym is)
-    (accepted written text (proofs_are_certificates old level pick text valid picked proves))
+    (accepted written text (proofs_are_certificates old level pick text may.wide may.valid picked proves))
 
 -- ---- runs
 
-line_valid : (old new : State) (line : List ℕ) (answer : Answer) → IsValidState old → LineStep old line answer new → IsValidState new
-line_valid old new line Silence valid step = subst IsValidState (sym step.2) valid
-line_valid old new line TooLong valid step = subst IsValidState (sym step.1) valid
-line_valid old new line Unread valid step = subst IsValidState (sym step.2) valid
-line_valid old new line (Replies reply) valid (short, command, means, step) = steps_keep_valid.goes_on old new command reply means.1.1 valid step
+line_proves : (old new : State) (line : List ℕ) (answer : Answer) → MayProve old → LineStep old line answer new → MayProve new
+line_proves old new line answer may step = record {
+  valid = line_valid old new line answer may.valid step;
+  wide = subst (λ m. m ≤ MAX_COUNT) (sym (line_most old new line answer step)) may.wide;
+}
 
 -- a line is at most one byte longer than it is without a carriage return at its end
 one_longer : (line : List ℕ) → length line ≤ length (without_return line) + 1
@@ -171,9 +179,9 @@ proof_short Main = omega arith
 proof_short Top = omega arith
 
 -- `proof` is refused where the level is oversized, and else its reply is accepted
-step_answered : {K : Type 0} (written : K → Option (List ℕ)) (old new : State) (level : Level) (reply : Reply) → IsValidState old
+step_answered : {K : Type 0} (written : K → Option (List ℕ)) (old new : State) (level : Level) (reply : Reply) → MayProve old
     → Step old (Proof level) reply new → (reply ≡ Refused Oversized) ⊎ AreAccepted written (text_of reply)
-step_answered written old new level reply valid step = elim step [
+step_answered written old new level reply may step = elim step [
   | inl refused ↦ elim refused.first [
     | inl over ↦ inl (refused.told ∙ ap Refused (same_Some refused.why Oversized over.1))
     | inr rest ↦ absurd (let none : Some refused.why ≡ None = rest.1 in cc)
@@ -182,39 +190,39 @@ step_answered written old new level reply valid step = elim step [
     | inl want ↦ elim want [ inl lacks ↦ absurd lacks.may | inr gives ↦ absurd gives.may ]
     | inr fine ↦ elim fine.none [
       | inl over ↦ absurd (let some : None ≡ Some Oversized = over.1 in cc)
-      | inr fits ↦ inr (step_accepted written old new level reply valid fits.0 (inr (inr fine)))
+      | inr fits ↦ inr (step_accepted written old new level reply may fits.0 (inr (inr fine)))
     ]
   ]
 ]
 
-line_accepted : {K : Type 0} (written : K → Option (List ℕ)) (old new : State) (line : List ℕ) (level : Level) (answer : Answer) → IsValidState old
+line_accepted : {K : Type 0} (written : K → Option (List ℕ)) (old new : State) (line : List ℕ) (level : Level) (answer : Answer) → MayProve old
     → Means line (Says (Proof level)) → LineStep old line answer new
     → (answer ≡ Replies (Refused Oversized)) ⊎ AreAccepted written (answer_text answer)
-line_accepted written old new line level Silence valid means step = absurd (true≢false (sym step.1 ∙ means.0))
-line_accepted written old new line level TooLong valid means step =
+line_accepted written old new line level Silence may means step = absurd (true≢false (sym step.1 ∙ means.0))
+line_accepted written old new line level TooLong may means step =
     absurd (omega (arith, step.0, one_longer line, ap length means.1.0, proof_short level))
-line_accepted written old new line level Unread valid means step = absurd (step.1.1 (Proof level) means.1)
-line_accepted written old new line level (Replies reply) valid means (short, command, others, step) =
+line_accepted written old new line level Unread may means step = absurd (step.1.1 (Proof level) means.1)
+line_accepted written old new line level (Replies reply) may means (short, command, others, step) =
     let same : command ≡ Proof level = one_command (without_return line) command (Proof level) others.1 means.1 in
-    elim (step_answered written old new level reply valid (subst (λ (c : Command). Step old c reply new) same step)) [
+    elim (step_answered written old new level reply may (subst (λ (c : Command). Step old c reply new) same step)) [
       | inl refused ↦ inl (ap Replies refused)
       | inr accepted ↦ inr accepted
     ]
 
--- each line of a run with its answer is a step from a valid state
-accepted_in : {K : Type 0} (written : K → Option (List ℕ)) (old end : State) (lines : List (List ℕ)) (answers : List Answer) → IsValidState old
+-- each line of a run with its answer is a step from such a state
+accepted_in : {K : Type 0} (written : K → Option (List ℕ)) (old end : State) (lines : List (List ℕ)) (answers : List Answer) → MayProve old
     → Run old lines answers end → (line : List ℕ) (level : Level) (answer : Answer)
     → Contains (zip lines answers) (line, answer)
     → Means line (Says (Proof level)) → (answer ≡ Replies (Refused Oversized)) ⊎ AreAccepted written (answer_text answer)
-accepted_in written old end [] answers valid run line level answer here means = absurd (none_in_empty (line, answer) here)
-accepted_in written old end (first ∷ lines) [] valid run line level answer here means = absurd run
-accepted_in written old end (first ∷ lines) (reply ∷ answers) valid (next, step, run) line level answer here means =
+accepted_in written old end [] answers may run line level answer here means = absurd (none_in_empty (line, answer) here)
+accepted_in written old end (first ∷ lines) [] may run line level answer here means = absurd run
+accepted_in written old end (first ∷ lines) (reply ∷ answers) may (next, step, run) line level answer here means =
     elim (Contains-cases (first, reply) (line, answer) (zip lines answers) here) [
       | inl same ↦
           let is : first ≡ line = ap (λ (pair : List ℕ × Answer). pair.0) same in
           let gets : reply ≡ answer = ap (λ (pair : List ℕ × Answer). pair.1) same in
-          line_accepted written old next line level answer valid means (subst₂ (λ (l : List ℕ) (a : Answer). LineStep old l a next) is gets step)
-      | inr later ↦ accepted_in written next end lines answers (line_valid old next first reply valid step) run line level answer later means
+          line_accepted written old next line level answer may means (subst₂ (λ (l : List ℕ) (a : Answer). LineStep old l a next) is gets step)
+      | inr later ↦ accepted_in written next end lines answers (line_proves old next first reply may step) run line level answer later means
     ]
 
 -- where no dependency may pass the limits no level is oversized
@@ -239,23 +247,23 @@ never_over old new line level valid strict means (short, command, others, step) 
     ]
 
 -- each line of such a run
-strict_in : {K : Type 0} (written : K → Option (List ℕ)) (old end : State) (lines : List (List ℕ)) (answers : List Answer) → IsValidState old
+strict_in : {K : Type 0} (written : K → Option (List ℕ)) (old end : State) (lines : List (List ℕ)) (answers : List Answer) → MayProve old
     → old.plain.limits.defer ≡ false → SetStrictly lines → Run old lines answers end → (line : List ℕ) (level : Level) (answer : Answer)
     → Contains (zip lines answers) (line, answer) → Means line (Says (Proof level)) → AreAccepted written (answer_text answer)
-strict_in written old end [] answers valid strict sets run line level answer here means = absurd (none_in_empty (line, answer) here)
-strict_in written old end (first ∷ lines) [] valid strict sets run line level answer here means = absurd run
-strict_in written old end (first ∷ lines) (reply ∷ answers) valid strict sets (next, step, run) line level answer here means =
+strict_in written old end [] answers may strict sets run line level answer here means = absurd (none_in_empty (line, answer) here)
+strict_in written old end (first ∷ lines) [] may strict sets run line level answer here means = absurd run
+strict_in written old end (first ∷ lines) (reply ∷ answers) may strict sets (next, step, run) line level answer here means =
     elim (Contains-cases (first, reply) (line, answer) (zip lines answers) here) [
       | inl same ↦
           let is : first ≡ line = ap (λ (pair : List ℕ × Answer). pair.0) same in
           let gets : reply ≡ answer = ap (λ (pair : List ℕ × Answer). pair.1) same in
           let this : LineStep old line answer next = subst₂ (λ (l : List ℕ) (a : Answer). LineStep old l a next) is gets step in
-          elim (line_accepted written old next line level answer valid means this) [
-            | inl over ↦ absurd (never_over old next line level valid strict means (subst (λ (a : Answer). LineStep old line a next) over this))
+          elim (line_accepted written old next line level answer may means this) [
+            | inl over ↦ absurd (never_over old next line level may.valid strict means (subst (λ (a : Answer). LineStep old line a next) over this))
             | inr accepted ↦ accepted
           ]
       | inr later ↦
-          strict_in written next end lines answers (line_valid old next first reply valid step)
+          strict_in written next end lines answers (line_proves old next first reply may step)
           (line_strict old next first reply (λ bounds. sets first bounds (Contains-head first lines)) step strict)
           (λ other bounds there. sets other bounds (Contains-later first other lines there)) run line level answer later means
     ]
@@ -274,16 +282,19 @@ load_accepted written bytes out text found (state, reply, to, step, is) =
       total_low = omega arith;
       total_high = omega arith;
     } in
-    let valid : IsValidState state = loads_prove.valid MOST_NAMES default_limits bytes text state (omega arith) in_range found to in
+    let valid : IsValidState state = loads_prove.valid MOST_NAMES default_limits bytes text state in_range found to in
+    let most : state.plain.most ≡ MOST_NAMES = ap (λ (s : PlainState). s.most) to.plain.same in
     let strict : state.plain.limits.defer ≡ false = ap (λ (s : PlainState). s.limits.defer) to.plain.same in
-    subst (λ (b : List ℕ). AreAccepted written b) (sym is) (step_accepted written state state Main reply valid (none_over state Main valid strict) step)
+    subst (λ (b : List ℕ). AreAccepted written b) (sym is)
+    (step_accepted written state state Main reply (record { valid = valid; wide = omega (arith, most) }) (none_over state Main valid strict) step)
+
+start_proves : MayProve (start MOST_NAMES)
+start_proves = record { valid = steps_keep_valid.begins MOST_NAMES (omega arith); wide = omega arith }
 
 pub check_accepts_proofs : {K : Type 0} (written : K → Option (List ℕ)) → CheckAcceptsProofs written
 check_accepts_proofs written = record {
-  steps = step_accepted written;
-  runs = λ lines answers end run.
-      accepted_in written (start MOST_NAMES) end lines answers (steps_keep_valid.begins MOST_NAMES (omega arith) (omega arith)) run;
-  strict = λ lines answers end run sets.
-      strict_in written (start MOST_NAMES) end lines answers (steps_keep_valid.begins MOST_NAMES (omega arith) (omega arith)) refl sets run;
+  steps = λ old new level reply wide valid. step_accepted written old new level reply (record { valid = valid; wide = wide });
+  runs = λ lines answers end run. accepted_in written (start MOST_NAMES) end lines answers start_proves run;
+  strict = λ lines answers end run sets. strict_in written (start MOST_NAMES) end lines answers start_proves refl sets run;
   loads = load_accepted written;
 }

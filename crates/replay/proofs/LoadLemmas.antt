@@ -14,12 +14,12 @@ use Rattle.graph_model.specs.Replies.{Reply}
 use Rattle.graph_model.specs.Runs.{Answer, answer_text}
 use Rattle.graph_model.specs.Steps.{Step, KeepsPicks}
 use Rattle.graph_model.specs.Validity.{ArePicks, IsStagingPick}
-use Rattle.tx_graph.specs.Kept.{Kept, StandsFor}
+use Rattle.tx_graph.specs.Kept as graphs
 use Rattle.replay.specs.declared.input.End.TheVariants.{Told}
 use Rattle.replay.specs.declared.session.TheConstants.{MOST_NAMES}
 use Rattle.replay.specs.declared.top.Status.{Status}
 use Rattle.replay.specs.declared.top.Status.TheVariants as statuses
-use Rattle.replay.specs.Answers.{IsReadOfGraph}
+use Rattle.replay.specs.Answers.{IsReadOf}
 use Rattle.replay.specs.Inputs.{ReadsTo}
 use Rattle.replay.specs.Loads.{Loads, LoadsBytes, Tells, IsAnswer, IsRefused}
 
@@ -54,10 +54,14 @@ proof_leaves old new reply alone picks (inr (inr fine)) = kept_state old new alo
 
 -- ---- what is written of a graph that stands for the state that a text makes
 
-pub proof_writes : (kept : Kept) (most : ℕ) (bounds : Bounds) (text : DumpText) (state : State) (answer : Answer) (bytes : List ℕ) → LoadsTo most bounds text state
-    → StandsFor kept state → IsReadOfGraph kept (Proof Main) answer → bytes ≡ answer_text answer → LoadWrites most bounds (dumps.Loads text) bytes
-proof_writes kept most bounds text state answer bytes loads stands (reply, steps, told) is =
-    let (next, stands_next, step) = steps state stands in
+pub no_blocks : (most : ℕ) (bounds : Bounds) (text : DumpText) (state : State) → LoadsTo most bounds text state → state.plain.blocks ≡ []
+no_blocks most bounds text state loads = ap (λ (s : PlainState). s.blocks) loads.plain.same
+
+pub proof_writes : (graph : graphs.Kept) (most : ℕ) (bounds : Bounds) (text : DumpText) (state : State) (answer : Answer) (bytes : List ℕ)
+    → LoadsTo most bounds text state → graphs.StandsFor graph state → IsReadOf (record { graph = graph; blocks = [] }) (Proof Main) answer
+    → bytes ≡ answer_text answer → LoadWrites most bounds (dumps.Loads text) bytes
+proof_writes graph most bounds text state answer bytes loads stands (reply, steps, told) is =
+    let (next, stands_next, step) = steps state (record { graph = stands; blocks = rw (no_blocks most bounds text state loads) tt }) in
     let alone : state.plain.staging ≡ None = ap (λ (s : PlainState). s.staging) loads.plain.same in
     let same : next ≡ state = proof_leaves state next reply alone loads.picks step in
     (state, reply, loads, subst (λ (s : State). Step state (Proof Main) reply s) same step, is ∙ ap answer_text told)

@@ -22,7 +22,7 @@ use Rattle.replay.specs.declared.lines.Next.{Next}
 use Rattle.replay.specs.declared.lines.Next.TheVariants as next
 use Rattle.replay.specs.Cuts.{Leaves, TakesTo, Reads, GivesLine, GivesNext, IsPiece}
 use Rattle.replay.specs.Gatherings.{HasSent, Sends}
-use Rattle.replay.specs.Pools.{most_raised}
+use Rattle.mempool.specs.Pools.{most_raised}
 use Rattle.replay.specs.Sessions.{Answers, IsLine}
 use Rattle.replay.specs.Outputs.{BeginsWith, AreFirst, IsOutput}
 use Rattle.replay.specs.Statuses.{IsAnswered, IsCutOff}

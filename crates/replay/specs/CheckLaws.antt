@@ -8,6 +8,7 @@ use Rattle.graphs.specs.Certificates.{Certified}
 use Rattle.graph_model.specs.Words.{line_text}
 use Rattle.graph_model.specs.Lines.{Means, Says, max_input}
 use Rattle.graph_model.specs.Commands.{Proof, SetLimits}
+use Rattle.graph_model.specs.declared.limits.TheConstants.{MAX_COUNT}
 use Rattle.graph_model.specs.Limits.{Bounds, default_limits}
 use Rattle.graph_model.specs.Dumps.{DumpText, Loads, FindsLoad}
 use Rattle.graph_model.specs.Loads.{LoadWrites}
@@ -51,12 +52,13 @@ pub record AreAccepted {K : Type 0} (written : K → Option (List ℕ)) (bytes :
 abbrev pub SetStrictly : List (List ℕ) → Type 0
 SetStrictly lines = (line : List ℕ) (bounds : Bounds) → Contains lines line → Means line (Says (SetLimits bounds)) → bounds.defer ≡ false
 
--- In a valid state, where the level isn't oversized, the text of the reply to `proof` is accepted. So in every run from the start, whatever
--- lines come before it, a line which says `proof` is answered by bytes that are accepted, or by the refusal of an oversized level; and always
--- by bytes that are accepted where no line lets a dependency pass the limits. So are the bytes that `load` writes of a text that it accepts.
+-- In a valid state, where the level isn't oversized and a cluster may be allowed no more names than any graph can allow it, the text of the reply
+-- to `proof` is accepted. So in every run from the start, whatever lines come before it, a line which says `proof` is answered by bytes that are
+-- accepted, or by the refusal of an oversized level; and always by bytes that are accepted where no line lets a dependency pass the limits. So are
+-- the bytes that `load` writes of a text that it accepts.
 pub record CheckAcceptsProofs {K : Type 0} (written : K → Option (List ℕ)) : Type 0 where
-  pub steps : (old new : State) (level : Level) (reply : Reply) → IsValidState old → (IsOversized old.plain level → ⊥) → Step old (Proof level) reply new
-      → AreAccepted written (text_of reply)
+  pub steps : (old new : State) (level : Level) (reply : Reply) → old.plain.most ≤ MAX_COUNT → IsValidState old → (IsOversized old.plain level → ⊥)
+      → Step old (Proof level) reply new → AreAccepted written (text_of reply)
   pub runs : (lines : List (List ℕ)) (answers : List Answer) (end : State) → Run (start MOST_NAMES) lines answers end
       → (line : List ℕ) (level : Level) (answer : Answer) → Contains (zip lines answers) (line, answer) → Means line (Says (Proof level))
       → (answer ≡ Replies (Refused Oversized)) ⊎ AreAccepted written (answer_text answer)

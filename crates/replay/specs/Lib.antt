@@ -1,5 +1,4 @@
 pub mod Requests
-pub mod Pools
 pub mod Answers
 pub mod Sessions
 pub mod Inputs

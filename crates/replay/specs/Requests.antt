@@ -1,32 +1,13 @@
 -- What lines ask for, as commands.
 use Rattle.std.specs.Prelude.{◌≢◌, ℕ, List, []}
-use Rattle.graph_model.specs.Limits.{bounds_of}
 use Rattle.graph_model.specs.Commands.{Command}
 use Rattle.graph_model.specs.Commands as commands
 use Rattle.graph_model.specs.Lines.{Meaning, Quiet, NoForm, Says}
+use Rattle.mempool.specs.Requests.{change_command, search_command}
 use Rattle.replay.specs.declared.reading.Reading.{Reading}
 use Rattle.replay.specs.declared.reading.Reading.TheVariants as readings
-use Rattle.replay.specs.declared.request.Change.{Change}
-use Rattle.replay.specs.declared.request.Change.TheVariants as changes
 use Rattle.replay.specs.declared.request.Request.{Request}
 use Rattle.replay.specs.declared.request.Request.TheVariants as requests
-use Rattle.replay.specs.declared.request.Search.{Search}
-use Rattle.replay.specs.declared.request.Search.TheVariants as searches
-
-abbrev pub change_command : Change → Command
-change_command (changes.Limits set) = commands.SetLimits (bounds_of set)
-change_command (changes.Add id fee size) = commands.Add id fee size
-change_command (changes.Dep parent child) = commands.Dep parent child
-change_command (changes.Fee id fee) = commands.SetFee id fee
-change_command (changes.Remove id) = commands.Remove id
-change_command changes.Stage = commands.Stage
-change_command changes.Commit = commands.Commit
-change_command changes.Abort = commands.Abort
-
-abbrev pub search_command : Search → Command
-search_command (searches.Cluster id level) = commands.Cluster id level
-search_command (searches.Ancestors id level) = commands.Ancestors id level
-search_command (searches.Descendants id level) = commands.Descendants id level
 
 abbrev pub reading_command : Reading → Command
 reading_command (readings.Order level) = commands.Order level

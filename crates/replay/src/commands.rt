@@ -2,17 +2,17 @@ ghost use Rattle.std.specs.Prelude.{◌≡◌, ◌≢◌, [], ℕ, ◌+◌, ◌-
 ghost use Rattle.wire.specs.Readings.{meaning_of};
 ghost use Rattle.reorg.specs.Kept.{Kept};
 ghost use Rattle.replay.specs.Answers.{AnswersMeaning, MayTell, answer_of, IsReadOf, WritesAnswer};
-ghost use Rattle.replay.specs.Pools.{most_raised};
+ghost use Rattle.mempool.specs.Pools.{most_raised};
 ghost use Rattle.replay.specs.Requests.{MinesSome, asked, reading_command};
 ghost use Rattle.replay.specs.Sessions.{IsLine, Answers, HasRoom, Suits};
 
 use crate::answer::{Answer, Outcome};
-use crate::pool::Pool;
 use crate::reading::Reading;
 use crate::request::Request;
 use crate::session::Piece;
 use crate::writing::{write_diagram, write_dump, write_order, write_part, write_proof};
 use graph_model::{IdBuf, MAX_LINE, Refusal};
+use mempool::Mempool;
 use outside::{Failed, Sink};
 use std::alloc::Global;
 use std::marker::Brand;
@@ -24,7 +24,7 @@ use wire::{Line, read_line};
 /// The answer to a line, after the graph has changed. Names that a reading finds are left in `ids`.
 pub(crate) fn answer<const W: usize>(
     alloc: Global,
-    pool: &mut Pool<W>,
+    pool: &mut Mempool<W>,
     ids: &mut IdBuf,
     piece: Piece<'_>,
 ) -> Answer
@@ -44,7 +44,12 @@ pub(crate) fn answer<const W: usize>(
 }
 
 /// The answer to a line of these bytes.
-fn read<const W: usize>(alloc: Global, pool: &mut Pool<W>, ids: &mut IdBuf, bytes: &[u8]) -> Answer
+fn read<const W: usize>(
+    alloc: Global,
+    pool: &mut Mempool<W>,
+    ids: &mut IdBuf,
+    bytes: &[u8],
+) -> Answer
     requires few { pool.old.graph.levels.issued + most_raised ≤ 2 ^ 64 - 1 }
     requires room { HasRoom W ids.old }
     ensures line { MayTell pool.new result ids.new.ids (Answers pool.old pool.new bytes.now) }
@@ -56,13 +61,13 @@ fn read<const W: usize>(alloc: Global, pool: &mut Pool<W>, ids: &mut IdBuf, byte
         return Answer::TooLong;
     }
     let line = read_line(bytes, ids);
-    obey_unpaid::<Brand, Pool<W>>(alloc, pool, ids, line, Blank::new(1))
+    obey_unpaid::<Brand, Mempool<W>>(alloc, pool, ids, line, Blank::new(1))
 }
 
 /// The answer to what a line says that was read before. A `mine` has its names in `ids`.
 pub(crate) fn answer_line<const W: usize>(
     alloc: Global,
-    pool: &mut Pool<W>,
+    pool: &mut Mempool<W>,
     ids: &mut IdBuf,
     line: Line,
 ) -> Answer
@@ -74,7 +79,7 @@ pub(crate) fn answer_line<const W: usize>(
     ensures additions { pool.new.graph.levels.issued ≤ pool.old.graph.levels.issued + most_raised }
     ensures room { HasRoom W ids.new }
 {
-    obey_unpaid::<Brand, Pool<W>>(alloc, pool, ids, line, Blank::new(1))
+    obey_unpaid::<Brand, Mempool<W>>(alloc, pool, ids, line, Blank::new(1))
 }
 
 /// What obeys commands, and is read.
@@ -108,7 +113,7 @@ pub(crate) trait Obeys {
             (K.written sink.new) (K.faults sink.old) (K.faults sink.new) result };
 }
 
-impl<const W: usize> Obeys for Pool<W> {
+impl<const W: usize> Obeys for Mempool<W> {
     ghost kept = { λ pool. pool };
 
     ghost words = { W };
@@ -163,7 +168,7 @@ fn obey_unpaid<K: ledger::Ledger, G: Obeys>(
 /// The answer to a request, or why it is refused.
 fn answer_request<const W: usize, L: Ledger>(
     alloc: Global,
-    pool: &mut Pool<W>,
+    pool: &mut Mempool<W>,
     ids: &mut IdBuf,
     request: Request,
     steps: &mut Steps<L>,

@@ -12,7 +12,7 @@ ghost use Rattle.reorg.specs.Kept.{StandsFor, MakesStep};
 ghost use Rattle.replay.specs.declared.session.TheConstants.{MOST_NAMES};
 ghost use Rattle.replay.specs.Answers.{reply_outcome};
 ghost use Rattle.replay.specs.Generations.{IsPlayed, Generates, summary_of, summary_text};
-ghost use Rattle.replay.specs.Pools.{most_raised};
+ghost use Rattle.mempool.specs.Pools.{most_raised};
 ghost use Rattle.replay.specs.Statuses.{StatusFaults};
 ghost use Rattle.replay.specs.Writings.{GoesOnLines};
 

@@ -21,7 +21,6 @@ mod input;
 mod laws;
 mod lines;
 mod load;
-mod pool;
 mod reading;
 mod replies;
 mod request;

@@ -1,5 +1,5 @@
 //! The command `load`: a text is loaded as a graph, whose order is proved.
-ghost use Rattle.std.specs.Prelude.{◌≡◌, ℕ, ◌<◌, ◌*◌};
+ghost use Rattle.std.specs.Prelude.{◌≡◌, ℕ, ◌<◌, ◌*◌, []};
 ghost use Rattle.dump.specs.Loading.{LoadGives};
 ghost use Rattle.graph_model.specs.Commands as commands;
 ghost use Rattle.graph_model.specs.Limits.{default_limits};
@@ -8,15 +8,18 @@ ghost use Rattle.graph_model.specs.Runs.{answer_text};
 ghost use Rattle.graph_model.specs.Words.{line_text};
 ghost use Rattle.graphs.specs.declared.names.Level.TheVariants.{Main};
 ghost use Rattle.replay.specs.declared.session.TheConstants.{MOST_NAMES};
-ghost use Rattle.replay.specs.Answers.{IsReadOfGraph};
+ghost use Rattle.replay.specs.Answers.{IsReadOf};
 ghost use Rattle.replay.specs.Loads.{Loads, LoadsBytes, Tells};
 ghost use Rattle.replay.specs.Statuses.{StatusFaults};
 
+use crate::answer::Answer;
 use crate::input::{End, read_input};
+use crate::reading::Reading;
+use crate::replies::Replies;
 use crate::top::Status;
-use crate::writing::write_proof;
 use dump::{LoadFault, load};
 use graph_model::{DEFAULT_LIMITS, Level};
+use mempool::Mempool;
 use outside::{Failed, Sink, Source};
 use std::alloc::Global;
 use std::marker::Brand;
@@ -50,10 +53,14 @@ fn load_bytes<K: Sink>(alloc: Global, bytes: &[u8], sink: &mut K) -> Status
     ensures loads { LoadsBytes result bytes.now K.written sink.old sink.new }
     ensures faults { (reads : ℕ) → StatusFaults result reads reads (K.faults sink.old) (K.faults sink.new) }
 {
+    let Ok(mut replies) = Replies::new(alloc) else {
+        return Status::NoMemory;
+    };
     match load_unpaid::<Brand>(alloc, bytes, Blank::new(1)) {
         Ok(graph) => {
-            let status = prove(&graph, sink);
-            drop(graph);
+            let pool = Mempool::of(alloc, graph);
+            let status = prove(&pool, &mut replies, sink);
+            drop(pool);
             status
         }
         Err(LoadFault::Syntax) => refuse("no syntax", sink),
@@ -78,15 +85,21 @@ fn load_unpaid<K: ledger::Ledger>(
     load(alloc, bytes, DEFAULT_LIMITS, &mut steps)
 }
 
-/// Writes the proof of a graph's order, and answers the status for it.
-fn prove<K: Sink>(graph: &TxGraph<2>, sink: &mut K) -> Status
+/// Writes the proof of the order of main, and answers the status for it. The lines gather, and go out in large pieces.
+fn prove<K: Sink>(pool: &Mempool<2>, replies: &mut Replies, sink: &mut K) -> Status
+    requires none_held { replies.old ≡ [] }
     ensures tells { Tells Status.Done result (λ text. (answer : runs.Answer)
-        × IsReadOfGraph graph.now (commands.Proof Main) answer × (text ≡ answer_text answer))
+        × IsReadOf pool.now (commands.Proof Main) answer × (text ≡ answer_text answer))
         (K.written sink.old) (K.written sink.new) }
     ensures faults { (reads : ℕ) → StatusFaults result reads reads (K.faults sink.old) (K.faults sink.new) }
 {
-    match write_proof(graph, Level::Main, sink) {
-        Ok(_) => Status::Done,
+    let answer = Answer::Reads(Reading::Proof(Level::Main));
+    match replies.tell(pool, &answer, &[], sink) {
+        Ok(_) => {}
+        Err(Failed) => return Status::WriteFault,
+    }
+    match replies.send(sink) {
+        Ok(()) => Status::Done,
         Err(Failed) => Status::WriteFault,
     }
 }

@@ -7,10 +7,10 @@ ghost use Rattle.wire.specs.Readings.{meaning_of};
 
 use crate::answer::Outcome;
 use crate::commands::{answer, answer_line};
-use crate::pool::Pool;
 use crate::replies::Replies;
 use crate::totals::{Totals, main_totals};
 use graph_model::IdBuf;
+use mempool::Mempool;
 use outside::{Failed, NoMemory, Sink};
 use std::alloc::Global;
 use std::marker::Model;
@@ -36,7 +36,7 @@ pub enum Piece<'a> {
 #[derive(Drop)]
 pub struct Session<const W: usize> {
     alloc: Global,
-    pool: Pool<W>,
+    pool: Mempool<W>,
     // the names that a line lists, and then those that its reading finds
     ids: IdBuf,
 }
@@ -62,7 +62,7 @@ impl<const W: usize> Session<W> {
     ghost use Rattle.replay.specs.Answers.{AnswersMeaning, outcome_of};
     ghost use Rattle.replay.specs.Generations.{AreTotals};
     ghost use Rattle.replay.specs.Gatherings.{Gathers};
-    ghost use Rattle.replay.specs.Pools.{most_raised};
+    ghost use Rattle.mempool.specs.Pools.{most_raised};
     ghost use Rattle.replay.specs.Sessions.{IsLine, Answers, Suits};
 
     /// A session at the start: default limits, no names. Takes the room that readings need.
@@ -75,7 +75,7 @@ impl<const W: usize> Session<W> {
         Ok(Session {
             alloc,
             ids: IdBuf::new(alloc, MAX_NAMES)?,
-            pool: Pool::new(alloc)?,
+            pool: Mempool::new(alloc)?,
         })
     }
 

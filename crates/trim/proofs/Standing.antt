@@ -52,13 +52,13 @@ module _ (kept : Kept) (state : State) (stands : StandsFor kept state) where
   abbrev rate : ℕ → Sum
   rate = states.rate_of state.plain.table
 
-  pub limits_in_range : AreInRange MAX_COUNT (bounds_of kept.levels.limits)
-  limits_in_range =
+  pub limits_in_range : kept.most ≤ MAX_COUNT → AreInRange MAX_COUNT (bounds_of kept.levels.limits)
+  limits_in_range wide =
       let fine : AreInRange state.plain.most (bounds_of kept.levels.limits) =
       subst (λ (bounds : Bounds). AreInRange state.plain.most bounds) stands.plain.limits stands.plain.valid.limits in
       record {
         count_low = fine.count_low;
-        count_high = let high = fine.count_high in let most = stands.plain.valid.most in omega (arith, high, most);
+        count_high = let high = fine.count_high in let most = stands.plain.most in omega (arith, high, most, wide);
         size_low = fine.size_low;
         size_high = fine.size_high;
         total_low = fine.total_low;

@@ -1,5 +1,5 @@
 -- What the calls of a graph need of its parts.
-use Rattle.std.proofs.Common.{◌≡◌, ◌≢◌, ℕ, ℤ, ◌^◌, ◌<◌, ◌≤◌, ◌+◌, ◌*◌, Bool, true, false, List, [], ◌∷◌, length, sym, refl, ap, subst, subst₂, ◌∙◌, inl, inr, ◌⊎◌, Option, None, Some, true≢false, arith, Result, Ok, Err, OnOk, OnErr, is_err, IsErrAnd, is_some}
+use Rattle.std.proofs.Common.{◌≡◌, ◌≢◌, ℕ, ℤ, ◌^◌, ◌<◌, ◌≤◌, ◌+◌, Bool, true, false, List, [], ◌∷◌, length, sym, refl, ap, subst, subst₂, ◌∙◌, inl, inr, ◌⊎◌, Option, None, Some, true≢false, arith, Result, Ok, Err, OnOk, OnErr, is_err, IsErrAnd, is_some}
 use Rattle.std.specs.Prelude.{Contains, unsigned_abs, option_map, IsTrue, MatchOption, ◌↔◌}
 use Rattle.std.proofs.lemmas.Bool.{cases_lt, false_from_ne_true, true_from_ne_false}
 use Rattle.std.proofs.lemmas.Option.{none-some}
@@ -93,10 +93,6 @@ pub in_range : (kept : Kept) → IsSound kept → AreInRange kept.most (bounds_o
 in_range kept sound =
     let stands = sound.stands.1.plain in
     subst₂ AreInRange stands.most stands.limits stands.valid.limits
-
--- the words of a graph's sets are two at most
-pub at_most_two : (w : ℕ) (kept : Kept) → IsSound kept → kept.most ≡ 64 * w → w ≤ 2
-at_most_two w kept sound is = omega (arith, is, sound.stands.1.plain.most, sound.stands.1.plain.valid.most)
 
 -- and one that stays
 pub sound_still : (most : ℕ) (begun : Bool) (old new : Levels) → new ≡ old → IsSound (kept_of most begun old)

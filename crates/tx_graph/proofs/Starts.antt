@@ -1,5 +1,5 @@
 -- A graph without names stands for the start.
-use Rattle.std.proofs.Common.{◌≡◌, ◌≤◌, ℕ, true, false, [], sym, refl, ap, subst, ◌∙◌, inr, is_some, true≢false}
+use Rattle.std.proofs.Common.{◌≡◌, ℕ, true, false, [], sym, refl, ap, subst, ◌∙◌, inr, is_some, true≢false}
 use Rattle.std.specs.FinMap as finmap
 use Rattle.std.specs.FinSet as set
 use Rattle.std.specs.Ordering.{nat_cmp}
@@ -8,7 +8,6 @@ use Rattle.graphs.specs.declared.names.Level.TheVariants.{Main, Top}
 use Rattle.graphs.specs.Closures.{is_member, is_ancestor, ancestors_in, ancestors_of}
 use Rattle.cluster.specs.Clusters.{ArePicked}
 use Rattle.graph_model.specs.declared.names.Limits.{Limits}
-use Rattle.graph_model.specs.declared.limits.TheConstants.{MAX_COUNT}
 use Rattle.graph_model.specs.Limits.{AreInRange, bounds_of}
 use Rattle.graph_model.proofs.StepLemmas.{valid_at_start}
 use Rattle.graph_model.specs.States.{empty_graph}
@@ -74,7 +73,7 @@ picks_none levels limits is =
     subst HavePicks (sym is)
     (inr (none_over_here limits, record { picked = no_parts_picked; uncut = λ graph closes part here. absurd (none_in_empty part here) }), tt)
 
-module _ (most : ℕ) (limits : Limits) (wide : most ≤ MAX_COUNT) (in_range : AreInRange most (bounds_of limits)) where
+module _ (most : ℕ) (limits : Limits) (in_range : AreInRange most (bounds_of limits)) where
   none_stands : StandsFor (kept_of most false (no_names limits)) (start_within most limits)
   none_stands = record {
     plain = record {
@@ -87,7 +86,7 @@ module _ (most : ℕ) (limits : Limits) (wide : most ≤ MAX_COUNT) (in_range : 
       };
       main = graph_of_none;
       staging = tt;
-      valid = valid_at_start most (bounds_of limits) wide in_range;
+      valid = valid_at_start most (bounds_of limits) in_range;
     };
     picks = record { main = (none_over_here limits, refl); staging = tt };
   }

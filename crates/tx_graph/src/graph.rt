@@ -50,7 +50,8 @@ use std::marker::Model;
 use step_count::{Ledger, Steps};
 
 /// A transaction graph with clusters of at most 64·W transactions, where W is 1 or 2. It has two levels, as Bitcoin Core's
-/// `txgraph.h` does: main and, where one is open, staging, a copy of main that changes alone.
+/// `txgraph.h` does: main and, where one is open, staging, a copy of main on which changes are tried. Main stays as it is meanwhile, but for
+/// a new fee, which goes to each level that has the transaction.
 ///
 /// The graph keeps, of each level, who is an ancestor of whom, and an optimal order. It doesn't keep the dependencies that the
 /// ancestors came from. So a value stands for every state of the machine with these ancestors and these orders, and each call
@@ -186,10 +187,11 @@ fn close<const W: usize>(levels: &mut Levels<W>, verdict: Verdict)
 }
 
 /// The most names that the limit of a cluster may allow.
-fn most_names<const W: usize>() -> u64
-    requires { W ≤ 2 }
+fn most_names<const W: usize>(levels: &Levels<W>) -> u64
     ensures { result ≡ 64 * W }
 {
+    // that sets of names have at most two words is a clause of this call
+    let _issued = levels.issued();
     64 * W as u64
 }
 
@@ -260,10 +262,13 @@ impl<const W: usize> TxGraph<W> {
         self.levels.components(level)
     }
 
-    /// How many transactions [`add`](TxGraph::add) and [`restore`](TxGraph::restore) put into the graph since it was made.
+    /// How many transactions [`add`](TxGraph::add) and [`restore`](TxGraph::restore) put into the graph since it was made. Sets of names have
+    /// at most two words.
     pub fn additions(&self) -> u64
         ensures additions { result ≡ self.now.levels.issued }
         ensures stands { (state : State) × StandsFor self.now state }
+        ensures most { self.now.most ≡ 64 * W }
+        ensures narrow { W ≤ 2 }
     {
         self.levels.issued()
     }
@@ -283,7 +288,7 @@ impl<const W: usize> TxGraph<W> {
         if self.begun {
             return Err(Refusal::Late);
         }
-        if !limits.are_in_range(most_names::<W>()) {
+        if !limits.are_in_range(most_names(&self.levels)) {
             return Err(Refusal::Range);
         }
         self.levels.set_limits(limits);

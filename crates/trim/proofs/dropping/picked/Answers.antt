@@ -1,5 +1,5 @@
 -- A graph stands for some state, which says what holds of the names that are dropped.
-use Rattle.std.proofs.Common.{rules, ◌≡◌, List, ℕ, sym, ap, ◌∙◌, subst, SFits, to_z, of_z}
+use Rattle.std.proofs.Common.{rules, arith, ◌≡◌, ◌≤◌, List, ℕ, sym, ap, ◌∙◌, subst, SFits, to_z, of_z}
 use Rattle.std.specs.Int.{w128}
 use Rattle.std.proofs.lemmas.Int.{to_z-of_z}
 use Rattle.fee_rate.specs.declared.rates.Sum.{Sum}
@@ -7,6 +7,7 @@ use Rattle.fee_rate.specs.Rates.{sum_from}
 use Rattle.graphs.specs.Closures.{rate_of}
 use Rattle.graphs.specs.declared.names.Level.TheVariants.{Top}
 use Rattle.graphs.specs.Rates.{sums}
+use Rattle.graph_model.specs.declared.limits.TheConstants.{MAX_COUNT}
 use Rattle.levels.specs.Levels.{level_at}
 use Rattle.tx_graph.specs.Dropped.{MayGo}
 use Rattle.trim.specs.Trimmed.{IsDropped}
@@ -14,7 +15,10 @@ use Rattle.trim.proofs.Standing.{MayBeSummed, may_be_summed, dropped_one, droppe
 use Rattle.trim.proofs.dropping.picked.Goals as goal
 
 pub dropped-requires : goal.dropped-requires
-dropped-requires g c = let some = c.additions-additions.ensures.stands in (search rules, (limits_in_range c.args.graph.now some.0 some.1).count_high)
+dropped-requires g c =
+    let graph = c.additions-additions.ensures in
+    let wide : c.args.graph.now.most ≤ MAX_COUNT = omega (arith, graph.most, graph.narrow) in
+    (search rules, (limits_in_range c.args.graph.now graph.stands.0 graph.stands.1 wide).count_high)
 
 pub summed-sum-requires : goal.summed-sum-requires
 summed-sum-requires g c =

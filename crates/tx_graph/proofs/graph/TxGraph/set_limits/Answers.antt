@@ -3,7 +3,7 @@ use Rattle.graph_model.specs.Limits.{AreInRange, bounds_of}
 use Rattle.graph_model.specs.Commands.{SetLimits}
 use Rattle.graph_model.specs.declared.names.Refusal.TheVariants.{Late, Range}
 use Rattle.graph_model.specs.Replies.{Done, Refused}
-use Rattle.tx_graph.proofs.Calls.{kept_of, from_view, both_views, sound_after, at_most_two, none_yet, limits_step}
+use Rattle.tx_graph.proofs.Calls.{kept_of, from_view, both_views, sound_after, none_yet, limits_step}
 use Rattle.tx_graph.proofs.Rows.{late_row, range_row}
 use Rattle.tx_graph.proofs.Standing.{steps_refused}
 use Rattle.levels.specs.Levels.{Levels}
@@ -64,5 +64,4 @@ pub returns-clause-additions : goal.returns-clause-additions
 returns-clause-additions g c = ap (λ (l : Levels). l.issued) c.set_limits.ensures.set ∙ ap (λ (k : Kept). k.levels.issued) c.self.view_is
 
 pub most_names-requires : goal.most_names-requires
-most_names-requires g c =
-    at_most_two g.row.W (kept_of (64 * g.row.W) c.self.inside.begun c.self.inside.levels) c.self.invariant refl
+most_names-requires g c = levels_fit g.row.W assumption
