@@ -1,0 +1,7 @@
+pub mod Handles
+pub mod Copies
+pub mod Requests
+pub mod Pools
+pub mod Finds
+pub mod Desks
+pub mod Calls

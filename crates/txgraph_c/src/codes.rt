@@ -1,0 +1,25 @@
+//! What calls answer. From 3 to 21 stand the refusals of the machine, each by its number.
+
+/// The call did what it says.
+pub const DONE: u32 = 0;
+
+/// The slot has no graph. Nothing changed.
+pub const NO_GRAPH: u32 = 1;
+
+/// The slot has a graph already, where a new one should go. Nothing changed.
+pub const IN_USE: u32 = 2;
+
+/// A limit is outside its range: the refusal of `set_limits`, by its number.
+pub const RANGE: u32 = 4;
+
+/// There was no memory: the refusal, by its number.
+pub const MEMORY: u32 = 18;
+
+/// The piece that was handed out isn't the last one.
+pub const MORE: u32 = 32;
+
+/// As many additions were made as can be counted, 2^64 − 1. Nothing changed.
+pub const SPENT: u32 = 33;
+
+/// The list of transactions is empty, where it must not be. Nothing changed.
+pub const NO_NAMES: u32 = 34;
