@@ -20,28 +20,9 @@ use Rattle.reorg.specs.Kept.{Kept, MakesStep, StandsFor}
 use Rattle.txgraph_c.specs.declared.desk.Desk.{Desk}
 use Rattle.txgraph_c.specs.declared.telling.Rate.{Rate}
 use Rattle.txgraph_c.specs.declared.telling.Total.{Total}
+use Rattle.txgraph_c.specs.Numbers.{code_of, kept_of, picked_after, verdict_number, place_number}
 use Rattle.txgraph_c.specs.Copies.{copied, code_of_piece, TotalIs}
 use Rattle.txgraph_c.specs.Pools.{IsNew}
-
--- ---- what is told of a reply
-
--- 0, or the number of the refusal
-abbrev pub code_of : Reply → ℕ
-code_of (Refused why) = number_of why
-code_of reply = 0
-
--- the number that the refusal keeps; 0 where it keeps none, and where nothing was refused
-abbrev pub kept_of : Reply → ℕ
-kept_of (Refused why) = unwrap_or (told_as why).kept 0
-kept_of reply = 0
-
--- the names that a reply picks stay on the desk; any other reply leaves those that were there
-abbrev pub picked_after : List ℕ → Reply → List ℕ
-picked_after old (Evicted sum ids) = ids
-picked_after old (Built sum ids) = ids
-picked_after old (Trimmed sum ids) = ids
-picked_after old (Unmined ids) = ids
-picked_after old reply = old
 
 -- The machine answers the command with this reply. The result is 0 or the refusal's number, the kept number is the refusal's, and the reply shows
 -- in what else the call writes.
@@ -125,22 +106,11 @@ Asks old new command code kept_old kept out_old out Shows =
 
 -- ---- what a reply shows
 
-abbrev pub verdict_number : Verdict → ℕ
-verdict_number Better = 0
-verdict_number Worse = 1
-verdict_number Equal = 2
-verdict_number Incomparable = 3
-
 -- the number of the verdict
 abbrev pub ShowsVerdict : ℕ → ℕ → Reply → Type 0
 ShowsVerdict old new (Compared verdict) = new ≡ verdict_number verdict
 ShowsVerdict old new (Settled verdict) = new ≡ verdict_number verdict
 ShowsVerdict old new reply = new ≡ old
-
-abbrev pub place_number : Place → ℕ
-place_number Before = 0
-place_number Same = 1
-place_number After = 2
 
 -- the number of the place
 abbrev pub ShowsPlace : ℕ → ℕ → Reply → Type 0
@@ -157,13 +127,6 @@ ShowsTotal old new (Evicted sum ids) = TotalIs new sum
 ShowsTotal old new (Built sum ids) = TotalIs new sum
 ShowsTotal old new (Trimmed sum ids) = TotalIs new sum
 ShowsTotal old new reply = new ≡ old
-
--- ---- levels
-
--- 0 is main, and any other number the top level
-abbrev pub level_named : ℕ → Level
-level_named 0 = Main
-level_named (suc n) = Top
 
 -- ---- questions
 

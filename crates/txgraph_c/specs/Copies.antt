@@ -1,6 +1,5 @@
 -- What is written into the caller's memory.
-use Rattle.std.specs.Prelude.{◌≡◌, ◌↔◌, ℕ, ℤ, pos, ◌+◌, ◌*◌, ◌^◌, ◌++◌, List, length, take, drop, unsigned_abs, if◌then◌else◌, nat_lt, IsTrue}
-use Rattle.std.specs.Int.{◌<ℤ◌}
+use Rattle.std.specs.Prelude.{◌≡◌, ◌↔◌, ℕ, ℤ, pos, ◌+◌, ◌*◌, ◌^◌, ◌++◌, List, length, take, drop, unsigned_abs, if◌then◌else◌, nat_lt, ◌<ℤ◌, IsTrue}
 use Rattle.fee_rate.specs.declared.rates.Sum.{Sum}
 use Rattle.txgraph_c.specs.declared.telling.Total.{Total}
 

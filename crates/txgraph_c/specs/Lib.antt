@@ -1,5 +1,6 @@
 pub mod Handles
 pub mod Copies
+pub mod Numbers
 pub mod Requests
 pub mod Pools
 pub mod Finds

@@ -3,7 +3,8 @@ ghost use Rattle.std.specs.Prelude.{◌≡◌};
 ghost use Rattle.graph_model.specs.Commands.{Ancestors, Before, Block, Chunk, Cluster, Compare, Count, Descendants};
 ghost use Rattle.graph_model.specs.Replies.{Number};
 ghost use Rattle.reorg.specs.Kept.{MakesStep};
-ghost use Rattle.txgraph_c.specs.Calls.{Asks, GivesPiece, Knows, Makes, OfSlot, ShowsPart, ShowsPlace, ShowsTotal, ShowsVerdict, Tells, TellsOversized, TellsRate, TellsThere, level_named};
+ghost use Rattle.txgraph_c.specs.Calls.{Asks, GivesPiece, Knows, Makes, OfSlot, ShowsPart, ShowsPlace, ShowsTotal, ShowsVerdict, Tells, TellsOversized, TellsRate, TellsThere};
+ghost use Rattle.txgraph_c.specs.Numbers.{level_named};
 ghost use Rattle.txgraph_c.specs.Finds.{ShowsIds};
 ghost use Rattle.txgraph_c.specs.Requests.{search_command};
 

@@ -1,7 +1,7 @@
 //! Answers as numbers.
 ghost use Rattle.std.specs.Prelude.{◌≡◌};
 ghost use Rattle.graph_model.specs.Replies.{Refused, change_reply, picked_sum};
-ghost use Rattle.txgraph_c.specs.Calls.{code_of, kept_of, level_named, place_number, verdict_number};
+ghost use Rattle.txgraph_c.specs.Numbers.{code_of, kept_of, level_named, place_number, verdict_number};
 ghost use Rattle.txgraph_c.specs.Copies.{TotalIs};
 
 use crate::codes::DONE;
