@@ -1,6 +1,6 @@
 -- What a call says of the slot that it is handed. A slot has a desk, or none. A desk is a graph with its mined blocks, and the transactions that
 -- the latest call picked.
-use Rattle.std.specs.Prelude.{◌≡◌, ◌≢◌, ◌↔◌, ◌⊎◌, ℕ, ℤ, ◌+◌, ◌-◌, ◌^◌, ◌<◌, ◌≤◌, List, [], Bool, true, false, Option, None, Some, unwrap_or, length, Contains, min, drop, IsTrue, MatchOption}
+use Rattle.std.specs.Prelude.{◌≡◌, ◌≢◌, ◌↔◌, ◌⊎◌, ℕ, ℤ, ◌+◌, ◌-◌, ◌^◌, ◌<◌, ◌≤◌, List, [], Bool, true, false, Option, None, Some, unwrap_or, length, Contains, map, min, drop, IsTrue, MatchOption}
 use Rattle.std.specs.FinMap as finmap
 use Rattle.fee_rate.specs.declared.rates.Sum.{Sum}
 use Rattle.graphs.specs.declared.names.Level.{Level}
@@ -14,14 +14,15 @@ use Rattle.graph_model.specs.Limits.{AreInRange, bounds_of}
 use Rattle.graph_model.specs.Commands.{Command, Mine, Unmine}
 use Rattle.graph_model.specs.Oversize.{IsOversized}
 use Rattle.graph_model.specs.Refusals.{number_of, told_as, latest_ids}
-use Rattle.graph_model.specs.Replies.{Reply, Refused, Number, Stands, Compared, Settled, Evicted, Built, Trimmed, Unmined, OnePart}
+use Rattle.graph_model.specs.Replies.{Reply, Refused, Number, Stands, Compared, Settled, Evicted, Built, Trimmed, Unmined, OnePart, Parts, Points}
 use Rattle.graph_model.specs.States.{State, Entry, level_of}
 use Rattle.reorg.specs.Kept.{Kept, MakesStep, StandsFor}
 use Rattle.txgraph_c.specs.declared.desk.Desk.{Desk}
+use Rattle.txgraph_c.specs.declared.desk.Held.{Held}
 use Rattle.txgraph_c.specs.declared.telling.Rate.{Rate}
 use Rattle.txgraph_c.specs.declared.telling.Total.{Total}
 use Rattle.txgraph_c.specs.Numbers.{code_of, kept_of, picked_after, verdict_number, place_number}
-use Rattle.txgraph_c.specs.Copies.{copied, code_of_piece, TotalIs}
+use Rattle.txgraph_c.specs.Copies.{copied, code_of_piece, total_of, corner_of, IsListed}
 use Rattle.txgraph_c.specs.Pools.{IsNew}
 
 -- The machine answers the command with this reply. The result is 0 or the refusal's number, the kept number is the refusal's, and the reply shows
@@ -32,6 +33,7 @@ pub record Answers (old new : Desk) (command : Command) (code kept : ℕ) (Shows
   pub code_is : code ≡ code_of reply
   pub kept_is : kept ≡ kept_of reply
   pub picked : new.picked ≡ picked_after old.picked reply
+  pub held : new.held ≡ old.held
   pub shows : Shows reply
 
 -- nothing else is written
@@ -123,9 +125,9 @@ ShowsNumber old new reply = new ≡ old
 
 -- the sum of what was picked
 abbrev pub ShowsTotal : Total → Total → Reply → Type 0
-ShowsTotal old new (Evicted sum ids) = TotalIs new sum
-ShowsTotal old new (Built sum ids) = TotalIs new sum
-ShowsTotal old new (Trimmed sum ids) = TotalIs new sum
+ShowsTotal old new (Evicted sum ids) = new ≡ total_of sum
+ShowsTotal old new (Built sum ids) = new ≡ total_of sum
+ShowsTotal old new (Trimmed sum ids) = new ≡ total_of sum
 ShowsTotal old new reply = new ≡ old
 
 -- ---- questions
@@ -157,6 +159,37 @@ abbrev pub ShowsPart : Rate → Rate → List ℕ → List ℕ → ℕ → ℕ �
 ShowsPart rate_old rate old new count_old count (OnePart part) =
     (rate.fee ≡ part.rate.fee) × (rate.size ≡ part.rate.size) × (new ≡ copied part.ids old) × (count ≡ length part.ids)
 ShowsPart rate_old rate old new count_old count reply = (rate ≡ rate_old) × (new ≡ old) × (count ≡ count_old)
+
+-- ---- readings of a whole level, which stay on the desk as lists
+
+-- The machine answers with this reply, and the graph and what was picked stay. What is held shows the reply.
+pub record Gathers (old new : Desk) (command : Command) (code kept : ℕ) (Shows : Held → Held → Reply → Type 0) : Type 0 where
+  pub reply : Reply
+  pub step : MakesStep old.pool old.pool command reply
+  pub code_is : code ≡ code_of reply
+  pub kept_is : kept ≡ kept_of reply
+  pub pool : new.pool ≡ old.pool
+  pub picked : new.picked ≡ old.picked
+  pub shows : Shows old.held new.held reply
+
+-- There was no memory for the list. Nothing changed.
+pub record LacksRoom (old new : Desk) (code kept : ℕ) : Type 0 where
+  pub code_is : code ≡ 18
+  pub kept_is : kept ≡ 0
+  pub same : new ≡ old
+
+abbrev pub Reads : Option Desk → Option Desk → Command → ℕ → ℕ → ℕ → (Held → Held → Reply → Type 0) → Type 0
+Reads old new command code kept_old kept Shows =
+    OfSlot old new code (kept ≡ kept_old) (λ o n. LacksRoom o n code kept ⊎ Gathers o n command code kept Shows)
+
+-- the parts are listed; the rest that is held stays
+abbrev pub ShowsOrder : Held → Held → Reply → Type 0
+ShowsOrder old new (Parts parts) = IsListed parts new.listing × (new ≡ record old { listing = new.listing })
+ShowsOrder old new reply = new ≡ old
+
+abbrev pub ShowsCorners : Held → Held → Reply → Type 0
+ShowsCorners old new (Points points) = new ≡ record old { corners = map corner_of points }
+ShowsCorners old new reply = new ≡ old
 
 -- Items from a place on are copied to the front of the caller's array, as many as it has room for, and their number is told. The result tells
 -- whether others come behind them.

@@ -5,4 +5,5 @@ pub mod Requests
 pub mod Pools
 pub mod Finds
 pub mod Desks
+pub mod Gatherings
 pub mod Calls

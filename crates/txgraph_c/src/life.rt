@@ -7,10 +7,12 @@ ghost use Rattle.txgraph_c.specs.Desks.{limits_with};
 ghost use Rattle.txgraph_c.specs.Pools.{IsNew};
 
 use crate::codes::{DONE, IN_USE, MEMORY, NO_GRAPH, RANGE};
-use crate::desk::Desk;
+use crate::desk::{Desk, Held};
+use crate::listing::Listing;
 use crate::pool::Pool;
 use crate::slot::{Slot, put, take};
 use graph_model::{IdList, Limits};
+use graphs::Owned;
 use outside::NoMemory;
 use std::alloc::Global;
 
@@ -63,7 +65,12 @@ fn make_desk(alloc: Global, limits: Limits) -> Result<Box<Desk>, NoMemory>
 {
     let pool = Pool::new(alloc, limits)?;
     let picked = IdList::from_vec(Vec::new(alloc));
-    let desk = Box::new(alloc, Desk { pool, picked })?;
+    let held = Held {
+        listing: Listing::new(alloc),
+        corners: Owned::from_vec(Vec::new(alloc)),
+        text: Owned::from_vec(Vec::new(alloc)),
+    };
+    let desk = Box::new(alloc, Desk { pool, picked, held })?;
     Ok(desk)
 }
 

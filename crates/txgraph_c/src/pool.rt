@@ -9,15 +9,21 @@ ghost use Rattle.tx_graph.specs.Kept as graphs;
 ghost use Rattle.tx_graph.specs.Readings.{compare_reply, place_reply, settle_reply};
 ghost use Rattle.reorg.specs.Blocks.{unmined_reply};
 ghost use Rattle.reorg.specs.Kept.{MakesStep};
+ghost use Rattle.graph_model.specs.Commands as commands;
 ghost use Rattle.txgraph_c.specs.Finds.{Finds};
+ghost use Rattle.txgraph_c.specs.Gatherings.{GathersCorners, GathersOrder};
 ghost use Rattle.txgraph_c.specs.Pools.{IsNew};
 ghost use Rattle.txgraph_c.specs.Requests.{change_command, search_command};
 ghost use Rattle.graph_model.specs.Limits.{AreInRange, bounds_of};
 
 use crate::copying::hand_out;
+use crate::gathering::{gather_corners, gather_order};
+use crate::listing::Listing;
 use crate::request::{Change, Search};
+use crate::telling::Total;
 use block_builder::Builder;
 use eviction::evict;
+use graphs::Owned;
 use graph_model::{IdBuf, IdList, Level, Limits, Picked, Place, Refusal, TxId, Verdict};
 use outside::NoMemory;
 use reorg::Reorg;
@@ -194,6 +200,20 @@ impl Pool {
         ensures step { MakesStep self.now self.now (Block size) (built_reply result) }
     {
         fill_block(self.alloc, &self.graph, size)
+    }
+
+    /// The chunks of a level, with their transactions and flows. Refuses where the level is oversized, or where there is no memory.
+    pub(crate) fn gather_order(&self, level: Level) -> Result<Listing, Refusal>
+        ensures { GathersOrder (MakesStep self.now self.now (commands.Order level)) result }
+    {
+        gather_order(self.alloc, &self.graph, level)
+    }
+
+    /// The corners of a level's diagram. Refuses where the level is oversized, or where there is no memory.
+    pub(crate) fn gather_corners(&self, level: Level) -> Result<Owned<Total>, Refusal>
+        ensures { GathersCorners (MakesStep self.now self.now (commands.Diagram level)) result }
+    {
+        gather_corners(self.alloc, &self.graph, level)
     }
 }
 

@@ -2,9 +2,10 @@
 ghost use Rattle.std.specs.Prelude.{◌≡◌};
 ghost use Rattle.graph_model.specs.Replies.{Refused, change_reply, picked_sum};
 ghost use Rattle.txgraph_c.specs.Numbers.{code_of, kept_of, level_named, place_number, verdict_number};
-ghost use Rattle.txgraph_c.specs.Copies.{TotalIs};
+ghost use Rattle.txgraph_c.specs.Copies.{total_of};
 
 use crate::codes::DONE;
+use fee_rate::Sum;
 use graph_model::{Level, Picked, Place, Refusal, Verdict};
 
 /// A fee in satoshis, and a size in virtual bytes.
@@ -59,17 +60,27 @@ pub(crate) fn number_of_place(place: Place) -> u32
     }
 }
 
-/// The fee and the size of what was picked, in words.
-pub(crate) fn sum_of_picked(picked: &Picked) -> Total
-    ensures { TotalIs result (picked_sum picked.now) }
+/// A sum in words.
+pub(crate) fn total_of_sum(sum: Sum) -> Total
+    ensures { result ≡ total_of sum }
 {
-    let amount = picked.fee.unsigned_abs();
+    let amount = sum.fee.unsigned_abs();
     Total {
-        negative: picked.fee < 0,
+        negative: sum.fee < 0,
         high: (amount / WORD) as u64,
         low: (amount % WORD) as u64,
-        size: picked.size,
+        size: sum.size,
     }
+}
+
+/// The fee and the size of what was picked, in words.
+pub(crate) fn sum_of_picked(picked: &Picked) -> Total
+    ensures { result ≡ total_of (picked_sum picked.now) }
+{
+    total_of_sum(Sum {
+        fee: picked.fee,
+        size: picked.size,
+    })
 }
 
 /// Tells a refusal, and the number that it keeps.
