@@ -14,7 +14,7 @@ use Rattle.graph_model.specs.Limits.{AreInRange, bounds_of}
 use Rattle.graph_model.specs.Commands.{Command, Mine, Unmine}
 use Rattle.graph_model.specs.Oversize.{IsOversized}
 use Rattle.graph_model.specs.Refusals.{number_of, told_as, latest_ids}
-use Rattle.graph_model.specs.Replies.{Reply, Refused, Number, Stands, Compared, Settled, Evicted, Built, Trimmed, Unmined, OnePart, Parts, Points}
+use Rattle.graph_model.specs.Replies.{Reply, Refused, Number, Stands, Compared, Settled, Evicted, Built, Trimmed, Unmined, OnePart, Parts, Points, Dumped, text_of}
 use Rattle.graph_model.specs.States.{State, Entry, level_of}
 use Rattle.reorg.specs.Kept.{Kept, MakesStep, StandsFor}
 use Rattle.txgraph_c.specs.declared.desk.Desk.{Desk}
@@ -190,6 +190,10 @@ ShowsOrder old new reply = new ≡ old
 abbrev pub ShowsCorners : Held → Held → Reply → Type 0
 ShowsCorners old new (Points points) = new ≡ record old { corners = map corner_of points }
 ShowsCorners old new reply = new ≡ old
+
+abbrev pub ShowsText : Held → Held → Reply → Type 0
+ShowsText old new (Dumped text) = new ≡ record old { text = text_of (Dumped text) }
+ShowsText old new reply = new ≡ old
 
 -- Items from a place on are copied to the front of the caller's array, as many as it has room for, and their number is told. The result tells
 -- whether others come behind them.

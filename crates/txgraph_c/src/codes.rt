@@ -23,3 +23,24 @@ pub const SPENT: u32 = 33;
 
 /// The list of transactions is empty, where it must not be. Nothing changed.
 pub const NO_NAMES: u32 = 34;
+
+/// Bytes are no text of a certificate, or of a graph.
+pub const NO_SYNTAX: u32 = 36;
+
+/// What is written is no graph.
+pub const NO_GRAPH_TEXT: u32 = 37;
+
+/// The parts are no order of the graph.
+pub const NO_ORDER: u32 = 38;
+
+/// The rates of the parts don't fall, or a part's rate isn't the sum of its transactions.
+pub const NO_FALLING: u32 = 39;
+
+/// The flows don't certify the parts.
+pub const NO_FLOW: u32 = 40;
+
+/// There are more bytes than are read.
+pub const TOO_LONG: u32 = 41;
+
+/// The graph of a text is over the limits.
+pub const NO_LIMITS: u32 = 42;

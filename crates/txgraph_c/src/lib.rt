@@ -18,6 +18,7 @@
 
 mod changes;
 mod changing;
+mod checking;
 pub mod codes;
 mod copying;
 mod corners;

@@ -1,7 +1,7 @@
 //! The calls that read a whole level, and hand it out in pieces.
 ghost use Rattle.std.specs.Prelude.{◌≡◌, ◌⊎◌, ℕ};
 ghost use Rattle.graph_model.specs.Commands as commands;
-ghost use Rattle.txgraph_c.specs.Calls.{Gathers, GivesPiece, LacksRoom, OfSlot, Reads, ShowsCorners, ShowsOrder};
+ghost use Rattle.txgraph_c.specs.Calls.{Gathers, GivesPiece, LacksRoom, OfSlot, Reads, ShowsCorners, ShowsOrder, ShowsText};
 ghost use Rattle.txgraph_c.specs.Numbers.{level_named};
 
 use crate::codes::{DONE, NO_GRAPH};
@@ -40,6 +40,20 @@ fn read_corners(desk: &mut Desk, level: Level, kept: &mut u64) -> u32
     match desk.pool.gather_corners(level) {
         Ok(list) => {
             desk.held.corners = list;
+            *kept = 0;
+            DONE
+        }
+        Err(why) => refuse(why, kept),
+    }
+}
+
+/// Reads the text of main.
+fn read_text(desk: &mut Desk, kept: &mut u64) -> u32
+    ensures { Gathers desk.old desk.new commands.Dump result kept.new ShowsText }
+{
+    match desk.pool.gather_text() {
+        Ok(text) => {
+            desk.held.text = text;
             *kept = 0;
             DONE
         }
@@ -195,6 +209,52 @@ pub extern "C" fn txgraph_corners(
         return NO_GRAPH;
     };
     let code = hand_piece(desk.held.corners.as_slice(), from, corners, count);
+    put(slot, desk);
+    code
+}
+
+/// Reads the text of main, of which `txgraph_load` makes a graph again: lines `tx ID FEE SIZE` by rising name, then `edge PARENT CHILD` by rising
+/// child and then by rising parent, then `end`. It stays with the graph as it was then, until a text is read again, and is handed out in
+/// pieces: see `txgraph_text`. Mined blocks and a staging aren't in it.
+///
+/// # Errors
+///
+/// - 1: the slot has no graph.
+/// - 19 oversized: main is over the limits of a cluster. 18 memory: there is no memory.
+#[unsafe(no_mangle)]
+pub extern "C" fn txgraph_dump(alloc: Global, slot: &mut Slot, kept: &mut u64) -> u32
+    ensures { OfSlot slot.old.handle.value slot.new.handle.value result (kept.new ≡ kept.old)
+        (λ o n. Gathers o n commands.Dump result kept.new ShowsText) }
+{
+    let Some(mut desk) = take(alloc, slot) else {
+        return NO_GRAPH;
+    };
+    let code = read_text(&mut desk, kept);
+    put(slot, desk);
+    code
+}
+
+/// The bytes of the text that was read last, from the place `from` on: as many as the array has room for, and how many were copied.
+///
+/// # Errors
+///
+/// - 1: the slot has no graph.
+/// - 32: others come behind these.
+#[unsafe(no_mangle)]
+pub extern "C" fn txgraph_text(
+    alloc: Global,
+    slot: &mut Slot,
+    from: usize,
+    bytes: &mut [u8],
+    count: &mut usize,
+) -> u32
+    ensures { OfSlot slot.old.handle.value slot.new.handle.value result ((bytes.new ≡ bytes.old) × (count.new ≡ count.old))
+        (λ o n. (n ≡ o) × GivesPiece o.held.text from bytes.old bytes.new count.new result) }
+{
+    let Some(desk) = take(alloc, slot) else {
+        return NO_GRAPH;
+    };
+    let code = hand_piece(desk.held.text.as_slice(), from, bytes, count);
     put(slot, desk);
     code
 }

@@ -11,7 +11,7 @@ ghost use Rattle.reorg.specs.Blocks.{unmined_reply};
 ghost use Rattle.reorg.specs.Kept.{MakesStep};
 ghost use Rattle.graph_model.specs.Commands as commands;
 ghost use Rattle.txgraph_c.specs.Finds.{Finds};
-ghost use Rattle.txgraph_c.specs.Gatherings.{GathersCorners, GathersOrder};
+ghost use Rattle.txgraph_c.specs.Gatherings.{GathersCorners, GathersOrder, GathersText};
 ghost use Rattle.txgraph_c.specs.Pools.{IsNew};
 ghost use Rattle.txgraph_c.specs.Requests.{change_command, search_command};
 ghost use Rattle.graph_model.specs.Limits.{AreInRange, bounds_of};
@@ -22,6 +22,7 @@ use crate::listing::Listing;
 use crate::request::{Change, Search};
 use crate::telling::Total;
 use block_builder::Builder;
+use dump::DumpText;
 use eviction::evict;
 use graphs::Owned;
 use graph_model::{IdBuf, IdList, Level, Limits, Picked, Place, Refusal, TxId, Verdict};
@@ -66,6 +67,14 @@ impl Pool {
         ensures { IfOk result (IsNew limits) }
     {
         let graph = TxGraph::new(alloc, limits)?;
+        Pool::of_graph(alloc, graph)
+    }
+
+    /// A pool of a graph, without mined blocks.
+    pub(crate) fn of_graph(alloc: Global, graph: TxGraph<2>) -> Result<Pool, NoMemory>
+        ensures { IfOk result (λ pool. pool ≡ record { graph = graph; blocks = [] }) }
+    {
+        let _stands = graph.additions();
         let found = IdBuf::new(alloc, MOST_NAMES)?;
         let reorg = Reorg::new(alloc);
         Ok(Pool {
@@ -215,6 +224,20 @@ impl Pool {
     {
         gather_corners(self.alloc, &self.graph, level)
     }
+
+    /// The text of main. Refuses where main is oversized, or where there is no memory.
+    pub(crate) fn gather_text(&self) -> Result<DumpText, Refusal>
+        ensures { GathersText (MakesStep self.now self.now commands.Dump) result }
+    {
+        gather_text(self.alloc, &self.graph)
+    }
+}
+
+/// The text of a graph's main. Refuses where main is oversized, or where there is no memory.
+fn gather_text(alloc: Global, graph: &TxGraph<2>) -> Result<DumpText, Refusal>
+    ensures { GathersText (graphs.MakesStep graph.now graph.now commands.Dump) result }
+{
+    dump::text(alloc, graph)
 }
 
 /// The block of main of at most so many virtual bytes. Refuses where main is oversized.
