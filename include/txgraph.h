@@ -57,7 +57,14 @@ enum txgraph_code {
     TXGRAPH_BACK = 21,        /* keeps the name of a transaction of the block that is live again */
     TXGRAPH_MORE = 32,        /* the call did what it says, and others come behind what it handed out */
     TXGRAPH_SPENT = 33,       /* 2^64 - 1 additions were made, as many as can be counted */
-    TXGRAPH_NO_NAMES = 34     /* the list is empty */
+    TXGRAPH_NO_NAMES = 34,    /* the list is empty */
+    TXGRAPH_NO_SYNTAX = 36,   /* the bytes are no text of a certificate, or of a graph */
+    TXGRAPH_BAD_GRAPH = 37,   /* what is written is no graph */
+    TXGRAPH_BAD_ORDER = 38,   /* the chunks are no order of the graph */
+    TXGRAPH_BAD_RATES = 39,   /* the rates don't fall, or one isn't the sum over its transactions */
+    TXGRAPH_BAD_FLOWS = 40,   /* the flows don't certify the chunks */
+    TXGRAPH_TOO_LONG = 41,    /* more than 268,435,456 bytes */
+    TXGRAPH_OVER_LIMITS = 42  /* the graph of the text is over the limits */
 };
 
 /* Where you keep a graph: 16 bytes, all 0 at first. */
@@ -82,6 +89,22 @@ typedef struct txgraph_total {
     uint64_t low;
     uint64_t size;
 } txgraph_total;
+
+/* A chunk of an order: its fee and size, and how many transactions and flows it has. */
+typedef struct txgraph_part {
+    int64_t fee;
+    uint64_t size;
+    size_t ids;
+    size_t flows;
+} txgraph_part;
+
+/* An amount of 2^64 * high + low, in satoshis times virtual bytes, that goes from a child to a parent of its chunk. */
+typedef struct txgraph_flow {
+    uint64_t child;
+    uint64_t parent;
+    uint64_t high;
+    uint64_t low;
+} txgraph_flow;
 
 #define TXGRAPH_MAIN 0u
 #define TXGRAPH_TOP 1u
@@ -112,6 +135,11 @@ uint32_t txgraph_new(txgraph_slot *slot, uint64_t count, uint64_t size, uint64_t
 
 /* Lets the graph go, and gives all its memory back. */
 uint32_t txgraph_close(txgraph_slot *slot);
+
+/* Makes the graph that a text tells, under these limits. The text is one that txgraph_dump reads. Answers IN_USE, RANGE, NO_SYNTAX, BAD_GRAPH,
+ * OVER_LIMITS, MEMORY. */
+uint32_t txgraph_load(txgraph_slot *slot, const uint8_t *bytes, size_t bytes_len, uint64_t count, uint64_t size, uint64_t total,
+                      bool defer, uint64_t *steps);
 
 /* ---- changes */
 
@@ -196,6 +224,32 @@ uint32_t txgraph_block(txgraph_slot *slot, uint64_t size, txgraph_total *total, 
 /* The transactions that the latest evict, trim, unmine or block picked, from the place `from` on: as many as the array has room for, and in
  * *count how many were copied. Answers MORE where others come behind them; the next piece begins at from + *count. */
 uint32_t txgraph_picked(txgraph_slot *slot, size_t from, uint64_t *ids, size_t ids_len, size_t *count);
+
+/* ---- readings of a whole level. What is read stays with the graph as it was then, until the same is read again, and is handed out in pieces as
+ * picked transactions are: from the place `from` on, as many as the array has room for, and in *count how many were copied; MORE where others
+ * come behind them. A reading takes memory for all of it, and time that is linear in it; a piece takes no memory. */
+
+/* Reads the order of a level: its chunks by falling feerate, then their transactions and their flows, each chunk by chunk. Answers OVERSIZED,
+ * MEMORY. */
+uint32_t txgraph_order(txgraph_slot *slot, uint32_t level, uint64_t *kept);
+uint32_t txgraph_parts(txgraph_slot *slot, size_t from, txgraph_part *parts, size_t parts_len, size_t *count);
+uint32_t txgraph_part_ids(txgraph_slot *slot, size_t from, uint64_t *ids, size_t ids_len, size_t *count);
+uint32_t txgraph_flows(txgraph_slot *slot, size_t from, txgraph_flow *flows, size_t flows_len, size_t *count);
+
+/* Reads the corners of a level's feerate diagram, from size 0 on: each a size, and the most that a closed set of that size pays. Answers
+ * OVERSIZED, MEMORY. */
+uint32_t txgraph_diagram(txgraph_slot *slot, uint32_t level, uint64_t *kept);
+uint32_t txgraph_corners(txgraph_slot *slot, size_t from, txgraph_total *corners, size_t corners_len, size_t *count);
+
+/* Reads the text of main, of which txgraph_load makes a graph again. Answers OVERSIZED, MEMORY. */
+uint32_t txgraph_dump(txgraph_slot *slot, uint64_t *kept);
+uint32_t txgraph_text(txgraph_slot *slot, size_t from, uint8_t *bytes, size_t bytes_len, size_t *count);
+
+/* ---- no graph */
+
+/* Whether the bytes are the text of a certificate, as `txgraph check` takes it. Answers NO_SYNTAX, BAD_GRAPH, BAD_ORDER, BAD_RATES, BAD_FLOWS,
+ * TOO_LONG, and MEMORY in place of any. */
+uint32_t txgraph_check(const uint8_t *bytes, size_t bytes_len);
 
 #ifdef __cplusplus
 }

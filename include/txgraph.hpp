@@ -21,6 +21,8 @@ using Rate = txgraph_rate;
 using Total = txgraph_total;
 using Verdict = txgraph_verdict;
 using Place = txgraph_place;
+using Part = txgraph_part;
+using Flow = txgraph_flow;
 
 enum class Level : std::uint32_t { main = TXGRAPH_MAIN, top = TXGRAPH_TOP };
 
@@ -55,6 +57,19 @@ struct Picked {
     std::vector<Id> ids;
 };
 
+// An order: its chunks by falling feerate, then their transactions and their flows, each chunk by chunk.
+struct Order {
+    std::vector<Part> parts;
+    std::vector<Id> ids;
+    std::vector<Flow> flows;
+};
+
+// Whether the bytes are the text of a certificate.
+inline Code check(std::span<const std::uint8_t> bytes) {
+    const std::uint8_t none = 0;
+    return static_cast<Code>(txgraph_check(bytes.empty() ? &none : bytes.data(), bytes.size()));
+}
+
 // What each call answered is told by `code`, and the number that a refusal keeps by `kept`. A call that gives a value gives none where it is
 // refused.
 class Graph {
@@ -63,6 +78,13 @@ public:
     // TXGRAPH_NO_GRAPH.
     explicit Graph(const Limits &limits = {}) {
         code_ = as_code(txgraph_new(&slot_, limits.count, limits.size, limits.total, limits.defer));
+    }
+
+    // The graph that a text tells, which `dump` of a graph gave. `code` says so where there is none.
+    Graph(std::span<const std::uint8_t> text, const Limits &limits) {
+        const std::uint8_t none = 0;
+        code_ = as_code(txgraph_load(&slot_, text.empty() ? &none : text.data(), text.size(), limits.count, limits.size, limits.total,
+                                     limits.defer, &steps_));
     }
 
     ~Graph() { txgraph_close(&slot_); }
@@ -178,11 +200,21 @@ public:
 
     // What the latest evict, trim, unmine or block picked, from a place on: how many were copied into `ids`. `code` is TXGRAPH_MORE where others
     // come behind them.
-    std::size_t picked(std::size_t from, std::span<Id> ids) {
-        Id none = 0;
-        std::size_t count = 0;
-        code_ = as_code(txgraph_picked(&slot_, from, ids.empty() ? &none : ids.data(), ids.size(), &count));
-        return count;
+    std::size_t picked(std::size_t from, std::span<Id> ids) { return piece(txgraph_picked, from, ids); }
+
+    // ---- a whole level
+
+    std::optional<Order> order(Level level) {
+        if (!is_done(txgraph_order(&slot_, as_number(level), &kept_))) return std::nullopt;
+        return Order{all<Part>(txgraph_parts), all<Id>(txgraph_part_ids), all<Flow>(txgraph_flows)};
+    }
+    std::optional<std::vector<Total>> diagram(Level level) {
+        if (!is_done(txgraph_diagram(&slot_, as_number(level), &kept_))) return std::nullopt;
+        return all<Total>(txgraph_corners);
+    }
+    std::optional<std::vector<std::uint8_t>> dump() {
+        if (!is_done(txgraph_dump(&slot_, &kept_))) return std::nullopt;
+        return all<std::uint8_t>(txgraph_text);
     }
 
 private:
@@ -194,18 +226,29 @@ private:
         return code == TXGRAPH_DONE;
     }
 
-    // all that was picked, in pieces
-    std::vector<Id> picked() {
+    template <class Item> using Piece = std::uint32_t(txgraph_slot *, std::size_t, Item *, std::size_t, std::size_t *);
+
+    template <class Item> std::size_t piece(Piece<Item> give, std::size_t from, std::span<Item> items) {
+        Item none{};
+        std::size_t count = 0;
+        code_ = as_code(give(&slot_, from, items.empty() ? &none : items.data(), items.size(), &count));
+        return count;
+    }
+
+    // all of a list, in pieces
+    template <class Item> std::vector<Item> all(Piece<Item> give) {
         const Code answered = code_;
-        std::vector<Id> all;
-        std::array<Id, 64> piece;
+        std::vector<Item> items;
+        std::array<Item, 64> part;
         do {
-            const std::size_t count = picked(all.size(), piece);
-            all.insert(all.end(), piece.begin(), piece.begin() + static_cast<std::ptrdiff_t>(count));
+            const std::size_t count = piece<Item>(give, items.size(), part);
+            items.insert(items.end(), part.begin(), part.begin() + static_cast<std::ptrdiff_t>(count));
         } while (code_ == TXGRAPH_MORE);
         code_ = answered;
-        return all;
+        return items;
     }
+
+    std::vector<Id> picked() { return all<Id>(txgraph_picked); }
 
     std::optional<Picked> all_of(Picked &found, std::uint32_t code) {
         if (!is_done(code)) return std::nullopt;

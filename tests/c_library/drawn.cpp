@@ -17,11 +17,7 @@ int main(int argc, char **argv) {
     lines << "limits 40 9000 1048576 defer\n";
     replies << drawn::told(graph, graph.set_limits({40, 9'000, 1'048'576, true}));
     for (std::uint64_t i = 0; i < count; i++) {
-#ifdef TXGRAPH_HAS_ORDERS
         const auto command = drawn::draw(dice, names, block, true);
-#else
-        const auto command = drawn::draw(dice, names, block, false);
-#endif
         lines << drawn::line_of(command);
         replies << drawn::make(graph, command, block);
     }

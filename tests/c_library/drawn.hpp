@@ -30,7 +30,7 @@ private:
 };
 
 enum class Word { add, dep, fee, remove, cluster, ancestors, descendants, chunk, before, count, stage, commit, abort, settle, compare, mine,
-                  unmine, evict, trim, block, order, diagram };
+                  unmine, evict, trim, block, order, diagram, dump };
 
 struct Command {
     Word word;
@@ -44,18 +44,18 @@ struct Command {
 inline const char *spelled(Word word) {
     static const char *const words[] = {"add", "dep", "fee", "remove", "cluster", "ancestors", "descendants", "chunk", "before", "count",
                                         "stage", "commit", "abort", "settle", "compare", "mine", "unmine", "evict", "trim", "block",
-                                        "order", "diagram"};
+                                        "order", "diagram", "dump"};
     return words[static_cast<int>(word)];
 }
 
 // One command. `block` has the transactions of the latest block that was filled, to be mined.
 inline Command draw(Dice &dice, std::uint64_t names, const std::vector<Id> &block, bool orders) {
     static const struct { Word word; unsigned share; } shares[] = {
-        {Word::add, 360}, {Word::dep, 270}, {Word::fee, 50}, {Word::remove, 60}, {Word::cluster, 15}, {Word::ancestors, 15},
+        {Word::add, 359}, {Word::dep, 270}, {Word::fee, 50}, {Word::remove, 60}, {Word::cluster, 15}, {Word::ancestors, 15},
         {Word::descendants, 15}, {Word::chunk, 20}, {Word::before, 20}, {Word::count, 10}, {Word::stage, 20}, {Word::commit, 8},
         {Word::abort, 8}, {Word::settle, 12}, {Word::compare, 15}, {Word::mine, 30}, {Word::unmine, 10}, {Word::evict, 20},
-        {Word::trim, 15}, {Word::block, 25}, {Word::order, 1}, {Word::diagram, 1}};
-    unsigned left = static_cast<unsigned>(dice.below(orders ? 1000 : 998));
+        {Word::trim, 15}, {Word::block, 25}, {Word::order, 1}, {Word::diagram, 1}, {Word::dump, 1}};
+    unsigned left = static_cast<unsigned>(dice.below(orders ? 1000 : 997));
     Command drawn{Word::add};
     for (const auto &share : shares) {
         drawn.word = share.word;
@@ -186,12 +186,15 @@ inline std::string make(Graph &graph, const Command &command, std::vector<Id> &b
         if (filled) block = filled->ids;
         return told(graph, "block", filled);
     }
-#ifdef TXGRAPH_HAS_ORDERS
     case Word::order: {
-        const auto parts = graph.order(command.level);
-        if (!parts) return refusal_of(graph);
+        const auto order = graph.order(command.level);
+        if (!order) return refusal_of(graph);
         std::string said;
-        for (const auto &part : *parts) said += with_ids("chunk " + std::to_string(part.rate.fee) + ' ' + std::to_string(part.rate.size), part.ids);
+        std::size_t from = 0;
+        for (const auto &part : order->parts) {
+            said += with_ids("chunk " + std::to_string(part.fee) + ' ' + std::to_string(part.size), std::span(order->ids).subspan(from, part.ids));
+            from += part.ids;
+        }
         return said + "end\n";
     }
     case Word::diagram: {
@@ -201,9 +204,10 @@ inline std::string make(Graph &graph, const Command &command, std::vector<Id> &b
         for (const auto &point : *points) said += "point " + std::to_string(point.size) + ' ' + fee_of(point) + '\n';
         return said + "end\n";
     }
-#else
-    case Word::order: case Word::diagram: break;
-#endif
+    case Word::dump: {
+        const auto text = graph.dump();
+        return text ? std::string(text->begin(), text->end()) : refusal_of(graph);
+    }
     }
     return "";
 }

@@ -68,7 +68,7 @@ bool run(std::uint64_t seed, std::uint64_t count, std::uint64_t names, long &ref
     std::vector<Id> block;
     graph.set_limits({12, 3'000, 1'048'576, true});
     for (std::uint64_t i = 0; i < count; i++) {
-        const auto command = draw(dice, names, block, false);
+        const auto command = draw(dice, names, block, true);
         const auto before = told_of(graph, names);
         for (long at = 0;; at++) {
             auto filled = block;

@@ -15,16 +15,9 @@ use std::sync::ledger::Blank;
 use step_count::{Counted, Steps};
 
 /// Makes a change, where one more addition can be counted. The solver's steps are added to the caller's.
-pub(crate) fn make_change(
-    desk: &mut Desk,
-    change: Change,
-    kept: &mut u64,
-    steps: &mut u64,
-) -> u32
-    ensures {
-        IsSpent desk.old desk.new 1 result (kept.new ≡ kept.old)
-        ⊎ Answers desk.old desk.new (change_command change) result kept.new Nothing
-    }
+pub(crate) fn make_change(desk: &mut Desk, change: Change, kept: &mut u64, steps: &mut u64) -> u32
+    ensures { IsSpent desk.old desk.new 1 result (kept.new ≡ kept.old)
+        ⊎ Answers desk.old desk.new (change_command change) result kept.new Nothing }
 {
     if desk.pool.additions() == u64::MAX {
         return SPENT;
@@ -54,10 +47,8 @@ fn pay_change<K: ledger::Ledger>(
 
 /// Takes the transactions of a mined block out of main. The solver's steps are added to the caller's.
 pub(crate) fn make_mine(desk: &mut Desk, ids: &[TxId], kept: &mut u64, steps: &mut u64) -> u32
-    ensures {
-        ((ids.now ≡ []) × (result ≡ 34) × (desk.new ≡ desk.old) × (kept.new ≡ kept.old))
-        ⊎ Answers desk.old desk.new (Mine ids.now) result kept.new Nothing
-    }
+    ensures { ((ids.now ≡ []) × (result ≡ 34) × (desk.new ≡ desk.old) × (kept.new ≡ kept.old))
+        ⊎ Answers desk.old desk.new (Mine ids.now) result kept.new Nothing }
 {
     if ids.is_empty() {
         return NO_NAMES;

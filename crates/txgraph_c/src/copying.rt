@@ -19,12 +19,7 @@ pub(crate) fn hand_out<T: Copy>(from: &[T], out: &mut [T]) -> usize
 }
 
 /// Copies the items from a place on to an array, as many as it has room for, and tells how many. Answers whether more are to come.
-pub(crate) fn hand_piece<T: Copy>(
-    all: &[T],
-    from: usize,
-    out: &mut [T],
-    count: &mut usize,
-) -> u32
+pub(crate) fn hand_piece<T: Copy>(all: &[T], from: usize, out: &mut [T], count: &mut usize) -> u32
     ensures copied { out.new ≡ copied (drop from all.now) out.old }
     ensures count { count.new ≡ min (length all.now - from) (length out.old) }
     ensures code { result ≡ code_of_piece (length all.now) (from + count.new) }

@@ -24,14 +24,20 @@ impl Handle {
     pub(crate) fn empty(alloc: Global) -> Handle
         ensures { result.value ≡ None }
     {
-        Handle { at: std::ptr::null_mut(), alloc }
+        Handle {
+            at: std::ptr::null_mut(),
+            alloc,
+        }
     }
 
     pub(crate) fn of_loose(loose: Loose<Desk, Global>) -> Handle
         ensures { result.value ≡ Some loose.value }
     {
         let Loose { at, alloc } = loose;
-        Handle { at: at as *mut u8, alloc }
+        Handle {
+            at: at as *mut u8,
+            alloc,
+        }
     }
 
     pub(crate) fn into_loose(self) -> Loose<Desk, Global>
@@ -39,7 +45,10 @@ impl Handle {
         ensures { Some result.value ≡ self.value }
     {
         let Handle { at, alloc } = self;
-        Loose { at: at as *mut Desk, alloc }
+        Loose {
+            at: at as *mut Desk,
+            alloc,
+        }
     }
 
     /// Lets an empty handle go.

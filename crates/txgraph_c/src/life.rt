@@ -6,9 +6,7 @@ ghost use Rattle.txgraph_c.specs.Loading.{IsLoaded, Loads, LoadsDesk, fault_numb
 ghost use Rattle.txgraph_c.specs.Desks.{limits_with};
 ghost use Rattle.txgraph_c.specs.Pools.{IsNew};
 
-use crate::codes::{
-    DONE, IN_USE, MEMORY, NO_GRAPH, NO_GRAPH_TEXT, NO_LIMITS, NO_SYNTAX, RANGE,
-};
+use crate::codes::{DONE, IN_USE, MEMORY, NO_GRAPH, NO_GRAPH_TEXT, NO_LIMITS, NO_SYNTAX, RANGE};
 use crate::desk::{Desk, Held};
 use crate::listing::Listing;
 use crate::pool::Pool;

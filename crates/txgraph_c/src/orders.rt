@@ -15,10 +15,8 @@ use std::alloc::Global;
 
 /// Reads the order of a level.
 fn read_order(desk: &mut Desk, level: Level, kept: &mut u64) -> u32
-    ensures {
-        LacksRoom desk.old desk.new result kept.new
-        ⊎ Gathers desk.old desk.new (commands.Order level) result kept.new ShowsOrder
-    }
+    ensures { LacksRoom desk.old desk.new result kept.new
+        ⊎ Gathers desk.old desk.new (commands.Order level) result kept.new ShowsOrder }
 {
     match desk.pool.gather_order(level) {
         Ok(list) => {
@@ -32,10 +30,8 @@ fn read_order(desk: &mut Desk, level: Level, kept: &mut u64) -> u32
 
 /// Reads the corners of a level's diagram.
 fn read_corners(desk: &mut Desk, level: Level, kept: &mut u64) -> u32
-    ensures {
-        LacksRoom desk.old desk.new result kept.new
-        ⊎ Gathers desk.old desk.new (commands.Diagram level) result kept.new ShowsCorners
-    }
+    ensures { LacksRoom desk.old desk.new result kept.new
+        ⊎ Gathers desk.old desk.new (commands.Diagram level) result kept.new ShowsCorners }
 {
     match desk.pool.gather_corners(level) {
         Ok(list) => {
@@ -69,12 +65,7 @@ fn read_text(desk: &mut Desk, kept: &mut u64) -> u32
 /// - 1: the slot has no graph.
 /// - 19 oversized: the level is over the limits of a cluster. 18: there is no memory.
 #[unsafe(no_mangle)]
-pub extern "C" fn txgraph_order(
-    alloc: Global,
-    slot: &mut Slot,
-    level: u32,
-    kept: &mut u64,
-) -> u32
+pub extern "C" fn txgraph_order(alloc: Global, slot: &mut Slot, level: u32, kept: &mut u64) -> u32
     ensures { Reads slot.old.handle.value slot.new.handle.value (commands.Order (level_named level)) result kept.old kept.new
         ShowsOrder }
 {
@@ -170,12 +161,7 @@ pub extern "C" fn txgraph_flows(
 /// - 1: the slot has no graph.
 /// - 19 oversized: the level is over the limits of a cluster. 18: there is no memory.
 #[unsafe(no_mangle)]
-pub extern "C" fn txgraph_diagram(
-    alloc: Global,
-    slot: &mut Slot,
-    level: u32,
-    kept: &mut u64,
-) -> u32
+pub extern "C" fn txgraph_diagram(alloc: Global, slot: &mut Slot, level: u32, kept: &mut u64) -> u32
     ensures { Reads slot.old.handle.value slot.new.handle.value (commands.Diagram (level_named level)) result kept.old kept.new
         ShowsCorners }
 {

@@ -71,10 +71,8 @@ pub(crate) fn trim_top<K: ledger::Ledger>(
 /// Puts the transactions of the latest block back, where as many more additions can be counted. The solver's steps are added to the
 /// caller's.
 pub(crate) fn take_back(desk: &mut Desk, kept: &mut u64, steps: &mut u64) -> u32
-    ensures {
-        IsSpent desk.old desk.new (length (latest_ids desk.old.pool.blocks)) result (kept.new ≡ kept.old)
-        ⊎ Answers desk.old desk.new Unmine result kept.new Nothing
-    }
+    ensures { IsSpent desk.old desk.new (length (latest_ids desk.old.pool.blocks)) result (kept.new ≡ kept.old)
+        ⊎ Answers desk.old desk.new Unmine result kept.new Nothing }
 {
     let more = desk.pool.latest_count() as u64;
     if more > u64::MAX - desk.pool.additions() {

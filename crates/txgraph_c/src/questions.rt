@@ -140,7 +140,14 @@ pub extern "C" fn txgraph_cluster(
         ((kept.new ≡ kept.old) × (ids.new ≡ ids.old) × (count.new ≡ count.old))
         (λ o n. Tells o n (Cluster id (level_named level)) result kept.new (ShowsIds ids.old ids.new count.old count.new)) }
 {
-    searched(alloc, slot, Search::Cluster(id, named_level(level)), ids, count, kept)
+    searched(
+        alloc,
+        slot,
+        Search::Cluster(id, named_level(level)),
+        ids,
+        count,
+        kept,
+    )
 }
 
 /// The ancestors of a transaction in a level (0 main, 1 top), itself among them, in rising order: as many as the array has room for, and how
@@ -164,7 +171,14 @@ pub extern "C" fn txgraph_ancestors(
         ((kept.new ≡ kept.old) × (ids.new ≡ ids.old) × (count.new ≡ count.old))
         (λ o n. Tells o n (Ancestors id (level_named level)) result kept.new (ShowsIds ids.old ids.new count.old count.new)) }
 {
-    searched(alloc, slot, Search::Ancestors(id, named_level(level)), ids, count, kept)
+    searched(
+        alloc,
+        slot,
+        Search::Ancestors(id, named_level(level)),
+        ids,
+        count,
+        kept,
+    )
 }
 
 /// The descendants of a transaction in a level (0 main, 1 top), itself among them, in rising order: as many as the array has room for, and how
@@ -188,7 +202,14 @@ pub extern "C" fn txgraph_descendants(
         ((kept.new ≡ kept.old) × (ids.new ≡ ids.old) × (count.new ≡ count.old))
         (λ o n. Tells o n (Descendants id (level_named level)) result kept.new (ShowsIds ids.old ids.new count.old count.new)) }
 {
-    searched(alloc, slot, Search::Descendants(id, named_level(level)), ids, count, kept)
+    searched(
+        alloc,
+        slot,
+        Search::Descendants(id, named_level(level)),
+        ids,
+        count,
+        kept,
+    )
 }
 
 /// How many transactions a level (0 main, 1 top) has.
