@@ -2,3 +2,4 @@ pub mod Values
 pub mod HandleValues
 pub mod Lists
 pub mod CheckLemmas
+pub mod PoolLemmas

@@ -4,21 +4,21 @@ use Rattle.graph_model.specs.Commands.{Block}
 use Rattle.graph_model.specs.Replies.{Built, Refused, picked_sum}
 use Rattle.graph_model.specs.declared.names.Refusal.TheVariants.{Memory}
 use Rattle.tx_graph.specs.Kept.{Kept, MakesStep}
-use Rattle.txgraph_c.proofs.RefusedLemmas.{refused_over}
+use Rattle.txgraph_c.proofs.PoolLemmas.{refused_over}
 use Rattle.txgraph_c.proofs.pool.fill_block.Goals as goal
 
 pub returns-in-Ok : goal.returns-in-Ok
-returns-in-Ok g c = record {
+returns-in-Ok c = record {
   step =
       subst (λ (k : Kept). MakesStep k k (Block c.args.size) (Built (picked_sum c.in-Ok.picked) c.in-Ok.picked.ids)) c.new.ensures.graph c.in-Ok.ensures.step;
 }
 
 pub returns : goal.returns
-returns g c =
+returns c =
     record { step = subst (λ (k : Kept). MakesStep k k (Block c.args.size) (Refused Memory)) c.new.ensures.graph c.in-Err.ensures.step }
 
 pub returns-then-oversized : goal.returns-then-oversized
-returns-then-oversized g c = record {
+returns-then-oversized c = record {
   step =
       refused_over c.args.graph.now (Block c.args.size) Main (λ state over. inl (over, refl))
       (λ state stands. (c.oversized.ensures.state state stands).0 c.if-oversized.true);

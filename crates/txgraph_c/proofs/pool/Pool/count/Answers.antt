@@ -1,12 +1,8 @@
-use Rattle.std.proofs.Common.{lit<}
 use Rattle.graph_model.specs.Commands.{Count}
 use Rattle.graph_model.specs.Replies.{Number}
 use Rattle.txgraph_c.proofs.PoolLemmas.{pool_reads}
 use Rattle.txgraph_c.proofs.pool.Pool.count.Goals as goal
 
 pub returns : goal.returns
-returns g c =
+returns c =
     record { step = pool_reads c.self.inside.graph c.self.inside.reorg c.args.self.now (Count c.args.level) (Number c.count.result) tt c.self.view_is c.count.ensures }
-
-pub count-requires : goal.count-requires
-count-requires g c = lit< tt

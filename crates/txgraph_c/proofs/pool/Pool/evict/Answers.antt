@@ -1,4 +1,3 @@
-use Rattle.std.proofs.Common.{lit<}
 use Rattle.graph_model.specs.Commands.{Evict}
 use Rattle.graph_model.specs.Replies.{evicted_reply}
 use Rattle.txgraph_c.proofs.PoolLemmas.{pool_steps, pool_stays}
@@ -6,11 +5,10 @@ use Rattle.txgraph_c.proofs.pool.Pool.evict.Goals as goal
 
 pub invariant_of-self : goal.invariant_of-self
 invariant_of-self g c =
-    pool_stays c.self.inside.graph c.evict.new.graph c.self.inside.reorg (Evict) (evicted_reply c.evict.result) tt c.evict.ensures.step c.self.invariant
+    pool_stays c.self.inside.graph c.evict.new.graph c.self.inside.reorg c.self.inside.found Evict (evicted_reply c.evict.result) tt
+    c.evict.ensures.step c.self.invariant
 
 pub returns-clause-step : goal.returns-clause-step
 returns-clause-step g c =
-    pool_steps c.self.inside.graph c.evict.new.graph c.self.inside.reorg c.args.self.now (Evict) (evicted_reply c.evict.result) tt c.self.view_is c.evict.ensures.step
-
-pub evict-requires : goal.evict-requires
-evict-requires g c = lit< tt
+    pool_steps c.self.inside.graph c.evict.new.graph c.self.inside.reorg c.args.self.now Evict (evicted_reply c.evict.result) tt
+    c.self.view_is c.evict.ensures.step
