@@ -1,4 +1,4 @@
-//! The handle.
+//! A desk as a pointer that C can hold.
 ghost use Rattle.std.specs.Prelude.{◌≡◌, Option, Some, None, IsSome};
 ghost use Rattle.txgraph_c.specs.declared.desk.Desk.{Desk};
 ghost use Rattle.txgraph_c.specs.Handles.{handle_owns, desk_coded};
@@ -6,8 +6,9 @@ ghost use Rattle.txgraph_c.specs.Handles.{handle_owns, desk_coded};
 use crate::desk::Desk;
 use crate::loose::Loose;
 use std::alloc::Global;
-use std::marker::Model;
+use std::marker::{Model, Send};
 
+/// A pointer to a desk on the heap, or to none. What it leads to it owns, so it can't be let go, nor copied.
 #[repr(C)]
 pub struct Handle {
     at: *mut u8,
@@ -30,6 +31,7 @@ impl Handle {
         }
     }
 
+    /// The pointer of a box that was taken apart.
     pub(crate) fn of_loose(loose: Loose<Desk, Global>) -> Handle
         ensures { result.value ≡ Some loose.value }
     {
@@ -40,6 +42,7 @@ impl Handle {
         }
     }
 
+    /// A box that was taken apart again. There is a desk.
     pub(crate) fn into_loose(self) -> Loose<Desk, Global>
         requires { IsSome self.value }
         ensures { Some result.value ≡ self.value }
@@ -51,10 +54,13 @@ impl Handle {
         }
     }
 
-    /// Lets an empty handle go.
+    /// Lets a handle without a desk go.
     pub(crate) fn discard(self)
         requires { self.value ≡ None }
     {
         let Handle { at: _, alloc: _ } = self;
     }
 }
+
+// What a handle leads to goes to another thread with it.
+unsafe impl Send for Handle {}
