@@ -3,3 +3,4 @@ pub mod HandleValues
 pub mod Lists
 pub mod CheckLemmas
 pub mod PoolLemmas
+pub mod CallLemmas

@@ -49,16 +49,16 @@ pub record Tells (old new : Desk) (command : Command) (code kept : ℕ) (Shows :
 
 -- An empty slot answers 1, and nothing changes. Else there is a desk in the slot before and after, and this is so of the two.
 abbrev pub OfSlot : Option Desk → Option Desk → ℕ → Type 0 → (Desk → Desk → Type 0) → Type 0
-OfSlot None new code Same Does = (code ≡ 1) × (new ≡ None) × Same
-OfSlot (Some old) None code Same Does = ⊥
-OfSlot (Some old) (Some new) code Same Does = Does old new
+OfSlot None new code Rest Does = (code ≡ 1) × (new ≡ None) × Rest
+OfSlot (Some old) None code Rest Does = ⊥
+OfSlot (Some old) (Some new) code Rest Does = Does old new
 
 -- As many additions were made as can be counted, less than this many. Nothing changed.
-pub record IsSpent (old new : Desk) (more code : ℕ) (Same : Type 0) : Type 0 where
+pub record IsSpent (old new : Desk) (more code : ℕ) (Rest : Type 0) : Type 0 where
   pub full : 2 ^ 64 - 1 < old.pool.graph.levels.issued + more
   pub code_is : code ≡ 33
   pub same : new ≡ old
-  pub kept : Same
+  pub kept : Rest
 
 -- ---- a slot that gets a graph, and one that loses it
 

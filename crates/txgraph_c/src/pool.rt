@@ -87,7 +87,7 @@ impl Pool {
 
     /// The graph, to be read.
     pub(crate) fn graph(&self) -> &TxGraph<2>
-        ensures graph { result.now ≡ self.now.graph }
+        ensures { result.now ≡ self.now.graph }
     {
         let _alloc = &self.alloc;
         &self.graph
@@ -113,8 +113,8 @@ impl Pool {
         change: Change,
         steps: &mut Steps<L>,
     ) -> Result<(), Refusal>
-        requires few { self.old.graph.levels.issued < 2 ^ 64 - 1 }
-        ensures step { MakesStep self.old self.new (change_command change) (change_reply result) }
+        requires { self.old.graph.levels.issued < 2 ^ 64 - 1 }
+        ensures { MakesStep self.old self.new (change_command change) (change_reply result) }
     {
         change.make(&mut self.graph, steps)
     }
@@ -125,44 +125,44 @@ impl Pool {
         ids: &[TxId],
         steps: &mut Steps<L>,
     ) -> Result<(), Refusal>
-        requires some { ids.now ≢ [] }
-        ensures step { MakesStep self.old self.new (Mine ids.now) (change_reply result) }
+        requires { ids.now ≢ [] }
+        ensures { MakesStep self.old self.new (Mine ids.now) (change_reply result) }
     {
         self.reorg.mine(&mut self.graph, ids, steps)
     }
 
     /// Puts the transactions of the latest block back into main, and tells them.
     pub(crate) fn unmine<L: Ledger>(&mut self, steps: &mut Steps<L>) -> Result<IdList, Refusal>
-        requires few { self.old.graph.levels.issued + length (latest_ids self.old.blocks) ≤ 2 ^ 64 - 1 }
-        ensures step { MakesStep self.old self.new Unmine (unmined_reply result) }
+        requires { self.old.graph.levels.issued + length (latest_ids self.old.blocks) ≤ 2 ^ 64 - 1 }
+        ensures { MakesStep self.old self.new Unmine (unmined_reply result) }
     {
         self.reorg.unmine(&mut self.graph, steps)
     }
 
     /// Drops the last part of main's order, and tells it.
     pub(crate) fn evict<L: Ledger>(&mut self, steps: &mut Steps<L>) -> Result<Picked, Refusal>
-        ensures step { MakesStep self.old self.new Evict (evicted_reply result) }
+        ensures { MakesStep self.old self.new Evict (evicted_reply result) }
     {
         evict(&mut self.graph, steps)
     }
 
     /// Cuts the top level back to its limits, and tells what is dropped.
     pub(crate) fn trim<L: Ledger>(&mut self, steps: &mut Steps<L>) -> Result<Picked, Refusal>
-        ensures step { MakesStep self.old self.new Trim (trimmed_reply result) }
+        ensures { MakesStep self.old self.new Trim (trimmed_reply result) }
     {
         trim(self.alloc, &mut self.graph, steps)
     }
 
     /// Closes the staging, and tells how it stood to main.
     pub(crate) fn settle(&mut self) -> Result<Verdict, Refusal>
-        ensures step { MakesStep self.old self.new Settle (settle_reply result) }
+        ensures { MakesStep self.old self.new Settle (settle_reply result) }
     {
         self.graph.settle()
     }
 
     /// How staging stands to main.
     pub(crate) fn compare(&self) -> Result<Verdict, Refusal>
-        ensures step { MakesStep self.now self.now Compare (compare_reply result) }
+        ensures { MakesStep self.now self.now Compare (compare_reply result) }
     {
         self.graph.compare()
     }
@@ -191,14 +191,14 @@ impl Pool {
 
     /// How many transactions a level has.
     pub(crate) fn count(&self, level: Level) -> usize
-        ensures step { MakesStep self.now self.now (Count level) (Number result) }
+        ensures { MakesStep self.now self.now (Count level) (Number result) }
     {
         self.graph.count(level)
     }
 
     /// Where one transaction stands to another in main's order.
     pub(crate) fn before(&self, a: TxId, b: TxId) -> Result<Place, Refusal>
-        ensures step { MakesStep self.now self.now (Before a b) (place_reply result) }
+        ensures { MakesStep self.now self.now (Before a b) (place_reply result) }
     {
         let place = self.graph.before(a, b);
         place
@@ -206,7 +206,7 @@ impl Pool {
 
     /// The block of main of at most so many virtual bytes. Refuses where main is oversized.
     pub(crate) fn block(&self, size: u64) -> Result<Picked, Refusal>
-        ensures step { MakesStep self.now self.now (Block size) (built_reply result) }
+        ensures { MakesStep self.now self.now (Block size) (built_reply result) }
     {
         fill_block(self.alloc, &self.graph, size)
     }
@@ -242,7 +242,7 @@ fn gather_text(alloc: Global, graph: &TxGraph<2>) -> Result<DumpText, Refusal>
 
 /// The block of main of at most so many virtual bytes. Refuses where main is oversized.
 fn fill_block(alloc: Global, graph: &TxGraph<2>, size: u64) -> Result<Picked, Refusal>
-    ensures step { graphs.MakesStep graph.now graph.now (Block size) (built_reply result) }
+    ensures { graphs.MakesStep graph.now graph.now (Block size) (built_reply result) }
 {
     if graph.oversized(Level::Main) {
         return Err(Refusal::Oversized);

@@ -36,8 +36,8 @@ impl Change {
         graph: &mut TxGraph<2>,
         steps: &mut Steps<L>,
     ) -> Result<(), Refusal>
-        requires few { graph.old.levels.issued < 2 ^ 64 - 1 }
-        ensures step { MakesStep graph.old graph.new (change_command self) (change_reply result) }
+        requires { graph.old.levels.issued < 2 ^ 64 - 1 }
+        ensures { MakesStep graph.old graph.new (change_command self) (change_reply result) }
     {
         match self {
             Change::Limits(limits) => graph.set_limits(limits),
@@ -55,7 +55,7 @@ impl Change {
 impl Search {
     /// Leaves the transactions in `ids`, where there is room for those of a cluster.
     pub(crate) fn find(self, graph: &TxGraph<2>, ids: &mut IdBuf) -> Result<(), Refusal>
-        requires room { 128 ≤ length ids.old.ids + ids.old.room }
+        requires { 128 ≤ length ids.old.ids + ids.old.room }
         ensures step { MakesStep graph.now graph.now (search_command self) (names_reply result ids.new.ids) }
         ensures room { length ids.new.ids + ids.new.room ≡ length ids.old.ids + ids.old.room }
     {

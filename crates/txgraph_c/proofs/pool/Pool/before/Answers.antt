@@ -5,4 +5,4 @@ use Rattle.txgraph_c.proofs.pool.Pool.before.Goals as goal
 
 pub returns : goal.returns
 returns c =
-    record { step = pool_reads c.self.inside.graph c.self.inside.reorg c.args.self.now (Before c.args.a c.args.b) (place_reply c.before-place.result) tt c.self.view_is c.before-place.ensures.step }
+    pool_reads c.self.inside.graph c.self.inside.reorg c.args.self.now (Before c.args.a c.args.b) (place_reply c.before-place.result) tt c.self.view_is c.before-place.ensures.step

@@ -10,8 +10,8 @@ invariant_of-self g c =
     pool_stays c.self.inside.graph c.make.new.graph c.self.inside.reorg c.self.inside.found (change_command c.args.change) (change_reply c.make.result)
     (change_leaves c.args.change) c.make.ensures c.self.invariant
 
-pub returns-clause-step : goal.returns-clause-step
-returns-clause-step g c =
+pub returns : goal.returns
+returns g c =
     pool_steps c.self.inside.graph c.make.new.graph c.self.inside.reorg c.args.self.now (change_command c.args.change) (change_reply c.make.result)
     (change_leaves c.args.change) c.self.view_is c.make.ensures
 

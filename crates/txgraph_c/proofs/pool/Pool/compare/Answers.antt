@@ -5,4 +5,4 @@ use Rattle.txgraph_c.proofs.pool.Pool.compare.Goals as goal
 
 pub returns : goal.returns
 returns c =
-    record { step = pool_reads c.self.inside.graph c.self.inside.reorg c.args.self.now (Compare) (compare_reply c.compare.result) tt c.self.view_is c.compare.ensures.step }
+    pool_reads c.self.inside.graph c.self.inside.reorg c.args.self.now (Compare) (compare_reply c.compare.result) tt c.self.view_is c.compare.ensures.step

@@ -5,4 +5,4 @@ use Rattle.txgraph_c.proofs.pool.Pool.count.Goals as goal
 
 pub returns : goal.returns
 returns c =
-    record { step = pool_reads c.self.inside.graph c.self.inside.reorg c.args.self.now (Count c.args.level) (Number c.count.result) tt c.self.view_is c.count.ensures }
+    pool_reads c.self.inside.graph c.self.inside.reorg c.args.self.now (Count c.args.level) (Number c.count.result) tt c.self.view_is c.count.ensures

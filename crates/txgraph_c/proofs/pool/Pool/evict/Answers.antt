@@ -8,7 +8,7 @@ invariant_of-self g c =
     pool_stays c.self.inside.graph c.evict.new.graph c.self.inside.reorg c.self.inside.found Evict (evicted_reply c.evict.result) tt
     c.evict.ensures.step c.self.invariant
 
-pub returns-clause-step : goal.returns-clause-step
-returns-clause-step g c =
+pub returns : goal.returns
+returns g c =
     pool_steps c.self.inside.graph c.evict.new.graph c.self.inside.reorg c.args.self.now Evict (evicted_reply c.evict.result) tt
     c.self.view_is c.evict.ensures.step

@@ -10,7 +10,7 @@ invariant_of-self g c =
     let pool = c.self.invariant in
     let next = c.mine.ensures.step pool.stands.0 pool.stands.1 in record { stands = (next.0, next.1); room = pool.room }
 
-pub returns-clause-step : goal.returns-clause-step
-returns-clause-step g c =
+pub returns : goal.returns
+returns g c =
     subst (λ (k : Kept). MakesStep k (pool_of c.mine.new.graph c.mine.new.self) (Mine c.args.ids.now) (change_reply c.mine.result)) c.self.view_is
     c.mine.ensures.step

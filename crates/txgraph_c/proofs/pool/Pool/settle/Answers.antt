@@ -8,7 +8,7 @@ invariant_of-self c =
     pool_stays c.self.inside.graph c.settle.new.self c.self.inside.reorg c.self.inside.found Settle (settle_reply c.settle.result) tt
     c.settle.ensures.step c.self.invariant
 
-pub returns-clause-step : goal.returns-clause-step
-returns-clause-step c =
+pub returns : goal.returns
+returns c =
     pool_steps c.self.inside.graph c.settle.new.self c.self.inside.reorg c.args.self.now Settle (settle_reply c.settle.result) tt
     c.self.view_is c.settle.ensures.step

@@ -8,7 +8,7 @@ invariant_of-self g c =
     pool_stays c.self.inside.graph c.trim.new.graph c.self.inside.reorg c.self.inside.found Trim (trimmed_reply c.trim.result) tt
     c.trim.ensures.step c.self.invariant
 
-pub returns-clause-step : goal.returns-clause-step
-returns-clause-step g c =
+pub returns : goal.returns
+returns g c =
     pool_steps c.self.inside.graph c.trim.new.graph c.self.inside.reorg c.args.self.now Trim (trimmed_reply c.trim.result) tt
     c.self.view_is c.trim.ensures.step

@@ -11,8 +11,8 @@ invariant_of-self g c =
     let pool = c.self.invariant in
     let next = c.unmine.ensures.step pool.stands.0 pool.stands.1 in record { stands = (next.0, next.1); room = pool.room }
 
-pub returns-clause-step : goal.returns-clause-step
-returns-clause-step g c =
+pub returns : goal.returns
+returns g c =
     subst (λ (k : Kept). MakesStep k (pool_of c.unmine.new.graph c.unmine.new.self) Unmine (unmined_reply c.unmine.result)) c.self.view_is
     c.unmine.ensures.step
 
