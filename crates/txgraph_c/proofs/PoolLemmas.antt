@@ -1,5 +1,9 @@
 -- Steps of a graph beside its mined blocks.
-use Rattle.std.proofs.Common.{◌≡◌, List, [], Ok, Err, subst, refl, inl, inr, Some, ℕ}
+use Rattle.std.proofs.Common.{◌≡◌, ◌≤◌, ◌+◌, length, List, [], Ok, Err, subst, sym, refl, inl, inr, Some, ℕ}
+use Rattle.std.specs.Prelude.{IfOk}
+use Rattle.outside.specs.declared.errors.NoMemory.{NoMemory}
+use Rattle.graph_model.specs.declared.names.Limits.{Limits}
+use Rattle.graph_model.specs.SameLaws.{AreSameBlocks}
 use Rattle.std.specs.declared.result.Result.{Result}
 use Rattle.graphs.specs.Rooms.{Room}
 use Rattle.graphs.specs.declared.names.Level.{Level}
@@ -21,7 +25,7 @@ use Rattle.txgraph_c.specs.declared.request.Search.{Search}
 use Rattle.txgraph_c.specs.declared.request.Search.TheVariants as searches
 use Rattle.txgraph_c.specs.declared.telling.Total.{Total}
 use Rattle.txgraph_c.specs.Gatherings.{GathersOrder, GathersCorners, GathersText}
-use Rattle.txgraph_c.specs.Pools.{IsPool}
+use Rattle.txgraph_c.specs.Pools.{IsPool, IsNew}
 use Rattle.txgraph_c.specs.Requests.{change_command, search_command}
 
 abbrev pub pool_of : graphs.Kept → List MinedBlock → Kept
@@ -44,6 +48,19 @@ pub pool_reads : (graph : graphs.Kept) (blocks : List MinedBlock) (seen : Kept) 
     → pool_of graph blocks ≡ seen → graphs.MakesStep graph graph command reply → MakesStep seen seen command reply
 pool_reads graph blocks seen command reply leaves is steps =
     subst (λ (k : Kept). MakesStep k k command reply) is (lifted graph graph command reply blocks leaves steps)
+
+-- a graph without mined blocks
+pub pool_without_blocks : (graph : graphs.Kept) (blocks : List MinedBlock) (found : Room) (state : State) → graphs.StandsFor graph state
+    → state.plain.blocks ≡ [] → blocks ≡ [] → 128 ≤ length found.ids + found.room → IsPool (pool_of graph blocks) found
+pool_without_blocks graph blocks found state stands empty none room = rw none record {
+  stands = (state, record { graph = stands; blocks = subst (AreSameBlocks []) (sym empty) tt });
+  room = room;
+}
+
+pub pool_is_new : (limits : Limits) (graph : graphs.Kept) → graphs.StandsFor graph (graphs.start_within 128 limits) → graph.levels.issued ≡ 0
+    → (r : Result Kept NoMemory) → IfOk r (λ pool. pool ≡ pool_of graph []) → IfOk r (IsNew limits)
+pool_is_new limits graph start none (Ok pool) is = subst (IsNew limits) (sym is) (record { start = start; blocks = refl; none = none })
+pool_is_new limits graph start none (Err e) is = tt
 
 -- ---- what is gathered of the graph is gathered of the pool
 

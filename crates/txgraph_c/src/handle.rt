@@ -6,7 +6,7 @@ ghost use Rattle.txgraph_c.specs.Handles.{handle_owns, desk_coded};
 use crate::desk::Desk;
 use crate::loose::Loose;
 use std::alloc::Global;
-use std::marker::{Model, Send};
+use std::marker::Model;
 
 /// A pointer to a desk on the heap, or to none. What it leads to it owns, so it can't be let go, nor copied.
 #[repr(C)]
@@ -61,6 +61,3 @@ impl Handle {
         let Handle { at: _, alloc: _ } = self;
     }
 }
-
-// What a handle leads to goes to another thread with it.
-unsafe impl Send for Handle {}

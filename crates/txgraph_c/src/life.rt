@@ -1,6 +1,8 @@
 //! A graph comes into a slot, and leaves it.
 ghost use Rattle.std.specs.Prelude.{◌≡◌, ◌<◌, ℕ, MatchResult, [], IfOk};
 ghost use Rattle.graph_model.specs.Limits.{AreInRange, bounds_of};
+ghost use Rattle.graph_model.specs.States.{State};
+ghost use Rattle.tx_graph.specs.Kept.{StandsFor};
 ghost use Rattle.txgraph_c.specs.Calls.{Closes, Opens};
 ghost use Rattle.txgraph_c.specs.Loading.{IsLoaded, Loads, LoadsDesk, fault_number};
 ghost use Rattle.txgraph_c.specs.Desks.{limits_with};
@@ -154,6 +156,7 @@ fn load_desk<K: ledger::Ledger>(
 
 /// A desk of a graph, without mined blocks.
 fn loaded_desk(alloc: Global, graph: TxGraph<2>) -> Result<Box<Desk>, LoadFault>
+    requires { (state : State) × StandsFor graph state × (state.plain.blocks ≡ []) }
     ensures { MatchResult result (λ desk. IsLoaded graph desk.value) (λ fault. fault ≡ LoadFault.Memory) }
 {
     let Ok(pool) = Pool::of_graph(alloc, graph) else {

@@ -10,7 +10,7 @@ ghost use Rattle.tx_graph.specs.Readings.{compare_reply, place_reply, settle_rep
 ghost use Rattle.reorg.specs.Blocks.{unmined_reply};
 ghost use Rattle.reorg.specs.Kept.{MakesStep};
 ghost use Rattle.graph_model.specs.Commands as commands;
-ghost use Rattle.txgraph_c.specs.Finds.{Finds};
+ghost use Rattle.txgraph_c.specs.Finds.{Finds, ShowsIds};
 ghost use Rattle.txgraph_c.specs.Gatherings.{GathersCorners, GathersOrder, GathersText};
 ghost use Rattle.txgraph_c.specs.Pools.{IsNew};
 ghost use Rattle.txgraph_c.specs.Requests.{change_command, search_command};
@@ -72,9 +72,9 @@ impl Pool {
 
     /// A pool of a graph, without mined blocks.
     pub(crate) fn of_graph(alloc: Global, graph: TxGraph<2>) -> Result<Pool, NoMemory>
+        requires { (state : State) × graphs.StandsFor graph state × (state.plain.blocks ≡ []) }
         ensures { IfOk result (λ pool. pool ≡ record { graph = graph; blocks = [] }) }
     {
-        let _stands = graph.additions();
         let found = IdBuf::new(alloc, MOST_NAMES)?;
         let reorg = Reorg::new(alloc);
         Ok(Pool {
@@ -178,15 +178,8 @@ impl Pool {
         ensures finds { Finds self.old (search_command search) result out.old out.new count.old count.new }
         ensures same { self.new ≡ self.old }
     {
-        match search.find(&self.graph, &mut self.found) {
-            Ok(()) => {
-                let ids = self.found.ids();
-                hand_out(ids, out);
-                *count = ids.len();
-                Ok(())
-            }
-            Err(why) => Err(why),
-        }
+        let outcome = search.find(&self.graph, &mut self.found);
+        show_found(outcome, self.found.ids(), out, count)
     }
 
     /// How many transactions a level has.
@@ -230,6 +223,26 @@ impl Pool {
         ensures { GathersText (MakesStep self.now self.now commands.Dump) result }
     {
         gather_text(self.alloc, &self.graph)
+    }
+}
+
+/// Copies what was found to an array, and tells how many there are, where the search wasn't refused.
+fn show_found(
+    outcome: Result<(), Refusal>,
+    ids: &[TxId],
+    out: &mut [TxId],
+    count: &mut usize,
+) -> Result<(), Refusal>
+    ensures same { result ≡ outcome }
+    ensures shows { ShowsIds out.old out.new count.old count.new (names_reply outcome ids.now) }
+{
+    match outcome {
+        Ok(()) => {
+            hand_out(ids, out);
+            *count = ids.len();
+            Ok(())
+        }
+        Err(why) => Err(why),
     }
 }
 

@@ -5,7 +5,6 @@ use crate::desk::Desk;
 use crate::handle::Handle;
 use crate::loose::Loose;
 use std::alloc::Global;
-use std::marker::Send;
 use std::mem::replace;
 
 /// Where C keeps a graph: 16 bytes, all 0 at first. It has a graph exactly where it is live.
@@ -65,12 +64,4 @@ pub(crate) fn put(slot: &mut Slot, desk: Box<Desk>)
 {
     let Slot { live: _, handle } = replace(slot, Slot::holding(desk));
     handle.discard();
-}
-
-/// What may go to another thread.
-fn crosses<T: Send>(_it: &T) {}
-
-/// A slot with its graph may go to another thread. That it may is shown here, and does nothing.
-pub fn slot_crosses(slot: &Slot) {
-    crosses(slot)
 }

@@ -16,4 +16,4 @@ returns c =
 
 pub returns-then-oversized : goal.returns-then-oversized
 returns-then-oversized c = refused_over c.args.graph.now (Block c.args.size) Main (λ state over. inl (over, refl))
-      (λ state stands. (c.oversized.ensures.state state stands).0 c.if-oversized.true)
+    (λ state stands. (c.oversized.ensures.state state stands).0 c.if-oversized.true)

@@ -1,4 +1,4 @@
-use Rattle.std.proofs.Common.{◌+◌, ◌≤◌, length, subst, sym}
+use Rattle.std.proofs.Common.{◌+◌, ◌≤◌, length, subst, sym, arith}
 use Rattle.graph_model.specs.Commands.{Unmine}
 use Rattle.graph_model.specs.Refusals.{latest_ids}
 use Rattle.reorg.specs.Blocks.{unmined_reply}
@@ -18,4 +18,5 @@ returns g c =
 
 pub unmine-requires : goal.unmine-requires
 unmine-requires g c =
-    subst (λ (k : Kept). k.graph.levels.issued + length (latest_ids k.blocks) ≤ 18446744073709551615) (sym c.self.view_is) c.requires
+    let few = subst (λ (k : Kept). k.graph.levels.issued + length (latest_ids k.blocks) ≤ 18446744073709551615) (sym c.self.view_is) c.requires in
+    omega (arith, few)
