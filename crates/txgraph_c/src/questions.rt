@@ -11,7 +11,7 @@ ghost use Rattle.txgraph_c.specs.Requests.{search_command};
 use crate::codes::{DONE, NO_GRAPH};
 use crate::picking::fill_block;
 use crate::reading::{
-    give_picked, is_oversized, is_there, tell_chunk, tell_found, tell_place, tell_rate,
+    give_picked, is_oversized, is_there, tell_chunk, tell_count, tell_found, tell_place, tell_rate,
     tell_verdict,
 };
 use crate::request::Search;
@@ -230,7 +230,8 @@ pub extern "C" fn txgraph_count(
     let Some(desk) = take(alloc, slot) else {
         return NO_GRAPH;
     };
-    *count = desk.pool.count(named_level(level));
+    let found = tell_count(&desk, named_level(level));
+    *count = found;
     put(slot, desk);
     DONE
 }

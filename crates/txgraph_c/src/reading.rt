@@ -1,6 +1,8 @@
 //! Questions to a desk's graph.
 ghost use Rattle.std.specs.Prelude.{◌≡◌, ◌↔◌, ◌+◌, ◌-◌, ℕ, List, length, drop, min, IsTrue};
-ghost use Rattle.graph_model.specs.Commands.{Before, Chunk, Compare};
+ghost use Rattle.graph_model.specs.Commands.{Before, Chunk, Compare, Count};
+ghost use Rattle.graph_model.specs.Replies.{Number};
+ghost use Rattle.reorg.specs.Kept.{MakesStep};
 ghost use Rattle.txgraph_c.specs.Calls.{Answers, GivesPiece, ShowsPart, ShowsPlace, ShowsVerdict, Tells, TellsRate, TellsThere, TellsOversized};
 ghost use Rattle.txgraph_c.specs.Finds.{ShowsIds};
 ghost use Rattle.txgraph_c.specs.Requests.{search_command};
@@ -77,6 +79,13 @@ pub(crate) fn tell_found(
 {
     let outcome = desk.pool.find(search, ids, count);
     tell(outcome, kept)
+}
+
+/// How many transactions a level has.
+pub(crate) fn tell_count(desk: &Desk, level: Level) -> usize
+    ensures { MakesStep desk.now.pool desk.now.pool (Count level) (Number result) }
+{
+    desk.pool.count(level)
 }
 
 /// Whether a level has a transaction.
