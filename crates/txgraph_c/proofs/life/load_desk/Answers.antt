@@ -25,8 +25,8 @@ carried bounds bytes graph gives (Ok desk) loaded = (graph, gives, loaded)
 carried bounds bytes graph gives (Err fault) none = subst (λ (f : LoadFault). LoadGives 128 bounds bytes (Err f)) (sym none) tt
 
 pub loaded_desk-requires : goal.loaded_desk-requires
-loaded_desk-requires g c = empty (bounds_of c.args.limits) c.args.bytes.now c.in-Ok.graph c.in-Ok.ensures
+loaded_desk-requires g c = empty (bounds_of c.args.limits) c.args.bytes.now c.in-Ok.graph c.in-Ok.ensures.loads
 
 pub returns-in-Ok : goal.returns-in-Ok
 returns-in-Ok g c =
-    carried (bounds_of c.args.limits) c.args.bytes.now c.in-Ok.graph c.in-Ok.ensures c.loaded_desk.result c.loaded_desk.ensures
+    carried (bounds_of c.args.limits) c.args.bytes.now c.in-Ok.graph c.in-Ok.ensures.loads c.loaded_desk.result c.loaded_desk.ensures
