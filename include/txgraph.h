@@ -12,8 +12,8 @@
  *
  *  - Zero a slot before its first use (TXGRAPH_EMPTY). Never copy a slot that has a graph, and never touch its fields. You may move it, if
  *    you zero the place that it left.
- *  - One call at a time for each slot. Give a slot to another thread by a lock, or by starting or joining a thread. Calls on different slots
- *    may run side by side.
+ *  - One call at a time for each slot, all from the thread that made the graph: that a graph may go to another thread isn't proved yet. Calls on
+ *    different slots may run side by side.
  *  - No pointer is null, not even one to an array of length 0, and no two pointers of a call lead to the same memory.
  *  - No call from a signal handler, or in a child that a process with threads forked.
  *

@@ -1,5 +1,5 @@
 // A transaction graph for a node's mempool: a thin class over txgraph.h, header alone, for C++20. What each call answers, and the units, stand
-// there. A graph isn't copied. One call at a time for each graph.
+// there. A graph isn't copied, and stays on its thread.
 #ifndef TXGRAPH_HPP
 #define TXGRAPH_HPP
 
