@@ -1,0 +1,6 @@
+pub mod Values
+pub mod HandleValues
+pub mod Lists
+pub mod CheckLemmas
+pub mod PoolLemmas
+pub mod CallLemmas

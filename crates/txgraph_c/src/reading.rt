@@ -1,0 +1,124 @@
+//! Questions to a desk's graph.
+ghost use Rattle.std.specs.Prelude.{◌≡◌, ◌↔◌, ◌+◌, ◌-◌, ℕ, List, length, drop, min, IsTrue};
+ghost use Rattle.graph_model.specs.Commands.{Before, Chunk, Compare, Count};
+ghost use Rattle.graph_model.specs.Replies.{Number};
+ghost use Rattle.reorg.specs.Kept.{MakesStep};
+ghost use Rattle.txgraph_c.specs.Calls.{Answers, GivesPiece, ShowsPart, ShowsPlace, ShowsVerdict, Tells, TellsRate, TellsThere, TellsOversized};
+ghost use Rattle.txgraph_c.specs.Finds.{ShowsIds};
+ghost use Rattle.txgraph_c.specs.Requests.{search_command};
+
+use crate::codes::DONE;
+use crate::copying::{hand_out, hand_piece};
+use crate::desk::Desk;
+use crate::request::Search;
+use crate::telling::{Rate, number_of_place, number_of_verdict, refuse, tell};
+use graph_model::{Level, TxId};
+
+/// How staging stands to main.
+pub(crate) fn tell_verdict(desk: &Desk, verdict: &mut u32, kept: &mut u64) -> u32
+    ensures { Answers desk.now desk.now Compare result kept.new (ShowsVerdict verdict.old verdict.new) }
+{
+    match desk.pool.compare() {
+        Ok(found) => {
+            *verdict = number_of_verdict(found);
+            *kept = 0;
+            DONE
+        }
+        Err(why) => refuse(why, kept),
+    }
+}
+
+/// Where one transaction stands to another in main's order.
+pub(crate) fn tell_place(desk: &Desk, a: TxId, b: TxId, place: &mut u32, kept: &mut u64) -> u32
+    ensures { Answers desk.now desk.now (Before a b) result kept.new (ShowsPlace place.old place.new) }
+{
+    match desk.pool.before(a, b) {
+        Ok(found) => {
+            *place = number_of_place(found);
+            *kept = 0;
+            DONE
+        }
+        Err(why) => refuse(why, kept),
+    }
+}
+
+/// The chunk of main's order that has a transaction.
+pub(crate) fn tell_chunk(
+    desk: &Desk,
+    id: TxId,
+    rate: &mut Rate,
+    ids: &mut [TxId],
+    count: &mut usize,
+    kept: &mut u64,
+) -> u32
+    ensures { Answers desk.now desk.now (Chunk id) result kept.new (ShowsPart rate.old rate.new ids.old ids.new count.old
+        count.new) }
+{
+    match desk.pool.graph().chunk(id) {
+        Ok(part) => {
+            rate.fee = part.rate.fee;
+            rate.size = part.rate.size;
+            hand_out(part.ids, ids);
+            *count = part.ids.len();
+            *kept = 0;
+            DONE
+        }
+        Err(why) => refuse(why, kept),
+    }
+}
+
+/// Transactions of a transaction's cluster.
+pub(crate) fn tell_found(
+    desk: &mut Desk,
+    search: Search,
+    ids: &mut [TxId],
+    count: &mut usize,
+    kept: &mut u64,
+) -> u32
+    ensures { Tells desk.old desk.new (search_command search) result kept.new (ShowsIds ids.old ids.new count.old count.new) }
+{
+    let outcome = desk.pool.find(search, ids, count);
+    tell(outcome, kept)
+}
+
+/// How many transactions a level has.
+pub(crate) fn tell_count(desk: &Desk, level: Level) -> usize
+    ensures { MakesStep desk.now.pool desk.now.pool (Count level) (Number result) }
+{
+    desk.pool.count(level)
+}
+
+/// Whether a level has a transaction.
+pub(crate) fn is_there(desk: &Desk, level: Level, id: TxId) -> bool
+    ensures { TellsThere desk.now level id result }
+{
+    desk.pool.graph().exists(level, id)
+}
+
+/// Whether a level is over the limits of a cluster.
+pub(crate) fn is_oversized(desk: &Desk, level: Level) -> bool
+    ensures { TellsOversized desk.now level result }
+{
+    desk.pool.graph().oversized(level)
+}
+
+/// The fee and the size of a transaction, and whether it is live. Where it isn't, `rate` stays.
+pub(crate) fn tell_rate(desk: &Desk, id: TxId, rate: &mut Rate) -> bool
+    ensures { TellsRate desk.now id result rate.new }
+{
+    match desk.pool.graph().sums(id) {
+        Some(found) => {
+            rate.fee = found.fee;
+            rate.size = found.size;
+            true
+        }
+        None => false,
+    }
+}
+
+/// The transactions that were picked, from a place on.
+pub(crate) fn give_picked(desk: &Desk, from: usize, ids: &mut [TxId], count: &mut usize) -> u32
+    ensures { GivesPiece desk.now.picked from ids.old ids.new count.new result }
+{
+    hand_piece(desk.picked.as_slice(), from, ids, count)
+}

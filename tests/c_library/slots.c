@@ -1,0 +1,80 @@
+/* What a slot answers before a graph, while it has one, and after. */
+#include <stdio.h>
+#include <string.h>
+
+#include "txgraph.h"
+
+#define CHECK(what)                                                                                                                       \
+    do {                                                                                                                                  \
+        if (!(what)) {                                                                                                                    \
+            printf("line %d: %s\n", __LINE__, #what);                                                                                     \
+            return 1;                                                                                                                     \
+        }                                                                                                                                 \
+    } while (0)
+
+int main(void) {
+    txgraph_slot slot = TXGRAPH_EMPTY;
+    uint64_t kept = 77, steps = 5, ids[4] = {9, 9, 9, 9};
+    size_t count = 3;
+    bool there = true;
+    CHECK(sizeof slot == 16);
+
+    /* an empty slot answers 1, and nothing is written */
+    CHECK(txgraph_add(&slot, 1, 10, 10, &kept, &steps) == TXGRAPH_NO_GRAPH && kept == 77 && steps == 5);
+    CHECK(txgraph_count(&slot, TXGRAPH_MAIN, &count) == TXGRAPH_NO_GRAPH && count == 3);
+    CHECK(txgraph_close(&slot) == TXGRAPH_NO_GRAPH);
+
+    /* a graph comes into the slot once */
+    CHECK(txgraph_new(&slot, 0, 1, 1, false) == TXGRAPH_RANGE && !slot.live);
+    CHECK(txgraph_new(&slot, 129, 1, 1, false) == TXGRAPH_RANGE && !slot.live);
+    CHECK(txgraph_new(&slot, 64, 404000, 1048576, false) == TXGRAPH_DONE && slot.live);
+    CHECK(txgraph_new(&slot, 64, 404000, 1048576, false) == TXGRAPH_IN_USE && slot.live);
+
+    /* refusals, and what they keep */
+    CHECK(txgraph_add(&slot, 1, 10, 10, &kept, &steps) == TXGRAPH_DONE && kept == 0);
+    CHECK(txgraph_add(&slot, 2, 30, 10, &kept, &steps) == TXGRAPH_DONE);
+    CHECK(txgraph_add(&slot, 1, 10, 10, &kept, &steps) == TXGRAPH_TAKEN && kept == 0);
+    CHECK(txgraph_dep(&slot, 1, 7, &kept, &steps) == TXGRAPH_UNKNOWN && kept == 7);
+    CHECK(txgraph_dep(&slot, 8, 2, &kept, &steps) == TXGRAPH_UNKNOWN && kept == 8);
+    CHECK(txgraph_dep(&slot, 1, 2, &kept, &steps) == TXGRAPH_DONE && kept == 0 && steps > 5);
+    CHECK(txgraph_dep(&slot, 2, 1, &kept, &steps) == TXGRAPH_CYCLE);
+    CHECK(txgraph_add(&slot, 3, 10, 500000, &kept, &steps) == TXGRAPH_CLUSTER_SIZE && kept == 500000);
+    CHECK(txgraph_set_limits(&slot, 64, 404000, 1048576, false, &kept, &steps) == TXGRAPH_LATE);
+
+    /* parent and child are not exchanged */
+    CHECK(txgraph_ancestors(&slot, TXGRAPH_MAIN, 2, ids, 4, &count, &kept) == TXGRAPH_DONE && count == 2 && ids[0] == 1 && ids[1] == 2);
+    CHECK(txgraph_ancestors(&slot, TXGRAPH_MAIN, 1, ids, 4, &count, &kept) == TXGRAPH_DONE && count == 1 && ids[0] == 1 && ids[1] == 2);
+
+    /* a short array gets the first ones, and the number of all */
+    ids[1] = 9;
+    CHECK(txgraph_cluster(&slot, TXGRAPH_MAIN, 2, ids, 1, &count, &kept) == TXGRAPH_DONE && count == 2 && ids[0] == 1 && ids[1] == 9);
+
+    /* no names, and names that are there */
+    CHECK(txgraph_mine(&slot, ids, 0, &kept, &steps) == TXGRAPH_NO_NAMES);
+    CHECK(txgraph_exists(&slot, TXGRAPH_MAIN, 1, &there) == TXGRAPH_DONE && there);
+    CHECK(txgraph_mine(&slot, ids, 1, &kept, &steps) == TXGRAPH_DONE);
+    CHECK(txgraph_exists(&slot, TXGRAPH_MAIN, 1, &there) == TXGRAPH_DONE && !there);
+    CHECK(txgraph_unmine(&slot, &kept, &steps) == TXGRAPH_DONE);
+    CHECK(txgraph_picked(&slot, 0, ids, 4, &count) == TXGRAPH_DONE && count == 1 && ids[0] == 1);
+
+    /* pieces of a block: each goes on where the last ended */
+    txgraph_total total;
+    CHECK(txgraph_block(&slot, 1000, &total, &kept) == TXGRAPH_DONE && !total.negative && total.high == 0 && total.low == 40 && total.size == 20);
+    CHECK(txgraph_picked(&slot, 0, ids, 1, &count) == TXGRAPH_MORE && count == 1 && ids[0] == 1);
+    CHECK(txgraph_picked(&slot, 1, ids, 1, &count) == TXGRAPH_DONE && count == 1 && ids[0] == 2);
+    CHECK(txgraph_picked(&slot, 2, ids, 1, &count) == TXGRAPH_DONE && count == 0);
+    CHECK(txgraph_picked(&slot, 99, ids, 1, &count) == TXGRAPH_DONE && count == 0);
+
+    /* the slot is moved, and used at its new place */
+    txgraph_slot moved = slot;
+    memset(&slot, 0, sizeof slot);
+    CHECK(txgraph_count(&moved, TXGRAPH_TOP, &count) == TXGRAPH_DONE && count == 2);
+    CHECK(txgraph_count(&slot, TXGRAPH_TOP, &count) == TXGRAPH_NO_GRAPH);
+
+    /* a closed slot is empty, and takes a new graph */
+    CHECK(txgraph_close(&moved) == TXGRAPH_DONE && !moved.live);
+    CHECK(txgraph_close(&moved) == TXGRAPH_NO_GRAPH);
+    CHECK(txgraph_new(&moved, 1, 1, 1, true) == TXGRAPH_DONE && txgraph_close(&moved) == TXGRAPH_DONE);
+    printf("slots answer as they should\n");
+    return 0;
+}
