@@ -62,7 +62,7 @@ std::string told_of(Graph &graph, std::uint64_t names) {
     return all + make(graph, Command{Word::compare}, none);
 }
 
-bool run(std::uint64_t seed, std::uint64_t count, std::uint64_t names, long &refusals) {
+bool run(std::uint64_t seed, std::uint64_t count, std::uint64_t names, long &refusals, long &harmless) {
     Dice dice(seed);
     Graph graph;
     std::vector<Id> block;
@@ -77,11 +77,10 @@ bool run(std::uint64_t seed, std::uint64_t count, std::uint64_t names, long &ref
             const bool reached = countdown < 0;
             countdown = -1;
             if (reply != "refused memory\n") {
+                // a table that can't grow by as much as it asks for first asks for less, so a refused request may cost nothing
+                if (reached) harmless++;
                 block = filled;
-                // a request that was refused and not told must have changed nothing that is seen
-                if (!reached) break;
-                std::cerr << "a refused request of `" << line_of(command) << "` was not told\n";
-                return false;
+                break;
             }
             refusals++;
             if (told_of(graph, names) != before) {
@@ -110,8 +109,9 @@ bool begin(long &refusals) {
 int main(int argc, char **argv) {
     if (argc != 4) return 2;
     long refusals = 0;
+    long harmless = 0;
     const bool well = begin(refusals)
-        && run(std::strtoull(argv[1], nullptr, 10), std::strtoull(argv[2], nullptr, 10), std::strtoull(argv[3], nullptr, 10), refusals);
-    std::cerr << refusals << " refused requests, " << blocks << " blocks not given back\n";
+        && run(std::strtoull(argv[1], nullptr, 10), std::strtoull(argv[2], nullptr, 10), std::strtoull(argv[3], nullptr, 10), refusals, harmless);
+    std::cerr << refusals << " refused calls, " << harmless << " lost nothing, " << blocks << " blocks not given back\n";
     return well && blocks == 0 ? 0 : 1;
 }
