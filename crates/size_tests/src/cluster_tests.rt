@@ -85,7 +85,7 @@ fn halves(alloc: Global, count: u64) -> Result<Script, AllocError> {
 /// A chain of one name more than may be in a cluster is cut back, put into a block, and dropped as one chunk.
 fn longest(alloc: Global, count: u64) -> Result<Script, AllocError> {
     let more = count.saturating_add(1);
-    let fee = count * more / 2;
+    let fee = count.saturating_mul(more) / 2;
     let mut script = begun(
         alloc,
         &format!(in alloc; "limits {count} 512000000 1000 defer")?,
