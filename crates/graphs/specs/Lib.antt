@@ -1,6 +1,7 @@
 pub mod Rooms
 pub mod Graphs
 pub mod Closures
+pub mod Unions
 pub mod Removals
 pub mod Rates
 pub mod Linearizations

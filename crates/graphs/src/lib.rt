@@ -19,5 +19,5 @@ pub use laws::{
     sorted_lists_merge, stays_graph, stays_without_cycle, unions_keep_components,
     verdicts_are_unique,
 };
-pub use names::{Flow, Level, TxId, Verdict};
+pub use names::{Flow, Kin, Level, TxId, Verdict};
 pub use owned::Owned;

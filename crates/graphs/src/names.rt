@@ -10,6 +10,13 @@ pub enum Level {
     Top,
 }
 
+/// Which relatives of a transaction a call asks for. A transaction is an ancestor and a descendant of itself.
+#[derive(Clone, Copy, Debug, PartialEq, Eq)]
+pub enum Kin {
+    Ancestors,
+    Descendants,
+}
+
 /// An amount that goes from a child to a parent, in proof that no part of a chunk has a greater rate than the chunk.
 /// Amounts are satoshis times virtual bytes.
 #[derive(Clone, Copy, Debug, PartialEq, Eq)]
