@@ -1,11 +1,12 @@
-//! Ancestors in the cluster of a number.
-ghost use Rattle.std.specs.Prelude.{◌≡◌, ◌↔◌, ℕ, true, Some, Contains, IsTrue};
+//! Ancestors and descendants in the cluster of a number.
+ghost use Rattle.std.specs.Prelude.{◌≡◌, ◌↔◌, ◌+◌, ◌≤◌, ℕ, true, Some, length, Contains, IsTrue};
 ghost use Rattle.slab.specs.Slab.{get};
 ghost use Rattle.graphs.specs.Closures.{is_ancestor};
+ghost use Rattle.graphs.specs.Unions.{IsKinOfSome, PutsBehind};
 ghost use Rattle.cluster_store.specs.Stores.{Stored as Kept};
 
 use crate::stored::Stored;
-use graphs::TxId;
+use graphs::{IdBuf, Kin, TxId};
 use record::Listing;
 use slab::Slab;
 
@@ -36,6 +37,27 @@ pub fn lacks<T: Listing, const W: usize>(
 {
     match slots.get_mut(number) {
         Some(stored) => stored.lacks(id, listing),
+        None => unreachable!(),
+    }
+}
+
+/// Puts behind `out` the ancestors, or the descendants, of names of a cluster.
+pub fn add_kin<const W: usize>(
+    slots: &mut Slab<Stored<W>>,
+    number: usize,
+    ids: &[TxId],
+    kin: Kin,
+    out: &mut IdBuf,
+)
+    requires { (s : Kept) × (get slots.old number ≡ Some s) × ((id : ℕ) → Contains ids.now id → Contains s.cluster.names id)
+        × (length s.cluster.names ≤ out.old.room) }
+    ensures adds { (s : Kept) → get slots.old number ≡ Some s
+        → PutsBehind (IsKinOfSome kin s.cluster.graph ids.now) out.old.ids out.new.ids }
+    ensures room { length out.new.ids + out.new.room ≡ length out.old.ids + out.old.room }
+    ensures same { slots.new ≡ slots.old }
+{
+    match slots.get_mut(number) {
+        Some(stored) => stored.add_kin(ids, kin, out),
         None => unreachable!(),
     }
 }

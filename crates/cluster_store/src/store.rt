@@ -1,7 +1,8 @@
-ghost use Rattle.std.specs.Prelude.{◌≡◌, ◌≢◌, ◌↔◌, ◌≤◌, ◌*◌, ◌++◌, ℕ, false, true, None, Some, [], ◌∷◌, map, Contains, IsSome, IsTrue, IfOk, IfSome, OnOk, OnErr, MatchOption, option_to_list};
+ghost use Rattle.std.specs.Prelude.{◌≡◌, ◌≢◌, ◌↔◌, ◌≤◌, ◌+◌, ◌*◌, ◌++◌, ℕ, false, true, None, Some, [], ◌∷◌, length, map, Contains, IsSome, IsTrue, IfOk, IfSome, OnOk, OnErr, MatchOption, option_to_list};
 ghost use Rattle.std.specs.FinMap as finmap;
 ghost use Rattle.graphs.specs.Closures.{is_ancestor};
 ghost use Rattle.graphs.specs.Merges.{Precedes};
+ghost use Rattle.graphs.specs.Unions.{IsKinOfSome, PutsBehind};
 ghost use Rattle.record.specs.Records.{IsRecord};
 ghost use Rattle.cluster_store.specs.Stores.{Stored as Kept, IsStore, AreWhole, IsLeast, IsOrdered, shown_in, shown_only};
 ghost use Rattle.chunk_index.specs.declared.entry.Tag.TheVariants.{Both};
@@ -13,7 +14,7 @@ ghost use Rattle.cluster_store.specs.Unordered.{LacksOrder};
 ghost use Rattle.cluster_store.specs.Names.{AreClusters, AreNames};
 ghost use Rattle.cluster_store.specs.Overs.{AreLacking};
 
-use crate::ancestry::{lacks, reaches};
+use crate::ancestry::{add_kin, lacks, reaches};
 use crate::clusters::{cluster_of, entry_at, exchange_all, tag_of};
 use crate::held::HeldWalk;
 use crate::least::{lowest_exchanged, lowest_of_all, lowest_of_last};
@@ -28,7 +29,7 @@ use crate::tail::first_of_tail;
 use crate::unordered::{lacks_order, list_exchanged, list_made, make_room};
 use crate::walk::PartWalk;
 use chunk_index::{ChunkIndex, Tag};
-use graphs::{Level, TxId};
+use graphs::{IdBuf, Kin, Level, TxId};
 use indexmap::IndexSet;
 use outside::NoMemory;
 use record::{Listing, Record};
@@ -154,6 +155,19 @@ impl<const W: usize> ClusterStore<W> {
         ensures same { self.new ≡ self.old }
     {
         lacks(&mut self.slots, number, id, listing)
+    }
+
+    /// Puts behind `out` the ancestors, or the descendants, of names of a cluster, each once; the names themselves are among them. The
+    /// cluster of the number has these names, and `out` has room for as many as the cluster has. Takes no memory.
+    pub fn add_kin(&mut self, number: usize, ids: &[TxId], kin: Kin, out: &mut IdBuf)
+        requires { (s : Kept) × (finmap.get self.old.clusters number ≡ Some s)
+            × ((id : ℕ) → Contains ids.now id → Contains s.cluster.names id) × (length s.cluster.names ≤ out.old.room) }
+        ensures adds { (s : Kept) → finmap.get self.old.clusters number ≡ Some s
+            → PutsBehind (IsKinOfSome kin s.cluster.graph ids.now) out.old.ids out.new.ids }
+        ensures room { length out.new.ids + out.new.room ≡ length out.old.ids + out.old.room }
+        ensures same { self.new ≡ self.old }
+    {
+        add_kin(&mut self.slots, number, ids, kin, out)
     }
 
     /// The parts of a level, by falling rate, among equal rates by the numbers of the clusters, and of a cluster in their

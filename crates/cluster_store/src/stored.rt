@@ -1,10 +1,11 @@
-ghost use Rattle.std.specs.Prelude.{◌≡◌, ◌↔◌, ℕ, true, Contains, IsTrue};
+ghost use Rattle.std.specs.Prelude.{◌≡◌, ◌↔◌, ◌+◌, ◌≤◌, ℕ, true, length, Contains, IsTrue};
 ghost use Rattle.graphs.specs.Closures.{is_ancestor};
+ghost use Rattle.graphs.specs.Unions.{IsKinOfSome, PutsBehind};
 
 use crate::walk::Parts;
 use chunk_index::Tag;
 use cluster::PartRef;
-use graphs::TxId;
+use graphs::{IdBuf, Kin, TxId};
 use record::{Listing, Record};
 use std::marker::Model;
 use std::mem;
@@ -80,6 +81,17 @@ impl<const W: usize> Stored<W> {
         ensures same { self.new ≡ self.old }
     {
         self.cluster.lacks(id, listing)
+    }
+
+    /// Puts behind `out` the ancestors, or the descendants, of names of the cluster.
+    pub(crate) fn add_kin(&mut self, ids: &[TxId], kin: Kin, out: &mut IdBuf)
+        requires ids { (id : ℕ) → Contains ids.now id → Contains self.old.cluster.names id }
+        requires room { length self.old.cluster.names ≤ out.old.room }
+        ensures adds { PutsBehind (IsKinOfSome kin self.old.cluster.graph ids.now) out.old.ids out.new.ids }
+        ensures room { length out.new.ids + out.new.room ≡ length out.old.ids + out.old.room }
+        ensures same { self.new ≡ self.old }
+    {
+        self.cluster.add_kin(ids, kin, out)
     }
 }
 

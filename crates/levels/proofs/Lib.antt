@@ -77,3 +77,5 @@ mod Overlimit
 mod Returned
 mod Gains
 mod Listing
+pub mod Kins
+pub mod Apart

@@ -15,7 +15,7 @@ use Rattle.levels.proofs.Found.{cluster_of}
 use Rattle.levels.proofs.Graphs.{in_live, live_in, one_number}
 
 -- a name is of a cluster that is seen
-of_seen : (o : Option Cluster) (id : ℕ) → Contains (names_seen o) id → (c : Cluster) × (o ≡ Some c) × Contains c.names id
+pub of_seen : (o : Option Cluster) (id : ℕ) → Contains (names_seen o) id → (c : Cluster) × (o ≡ Some c) × Contains c.names id
 of_seen None id here = absurd (none_in_empty id here)
 of_seen (Some c) id here = (c, refl, here)
 
@@ -55,7 +55,7 @@ module _ (w : ℕ) (level : Level) (shelf : Shelf) (order : IsInOrder w shelf) (
 -- ---- the clusters are its components
 
 -- what is listed of an option is what it has
-in_option : (o : Option Cluster) (c : Cluster) → Contains (option_to_list o) c → o ≡ Some c
+pub in_option : (o : Option Cluster) (c : Cluster) → Contains (option_to_list o) c → o ≡ Some c
 in_option None c here = absurd (none_in_empty c here)
 in_option (Some d) c here = ap (λ (x : Cluster). Some x) (Contains-one d c here)
 
@@ -64,7 +64,7 @@ option_names : (o : Option Cluster) (rest : List Cluster)
 option_names None rest = refl
 option_names (Some c) rest = refl
 
-all_names : (at : ℕ → Option Cluster) (ns : List ℕ)
+pub all_names : (at : ℕ → Option Cluster) (ns : List ℕ)
     → flat_map (λ (c : Cluster). c.names) (flat_map (λ n. option_to_list (at n)) ns) ≡ flat_map (λ n. names_seen (at n)) ns
 all_names at [] = refl
 all_names at (n ∷ ns) =

@@ -19,3 +19,4 @@ pub mod Tops
 pub mod Views
 pub mod Restores
 pub mod Gathered
+pub mod Unions

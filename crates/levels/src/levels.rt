@@ -1,14 +1,17 @@
-ghost use Rattle.std.specs.Prelude.{◌≡◌, ◌≢◌, ◌⊎◌, ℕ, ◌+◌, ◌-◌, ◌*◌, ◌^◌, ◌<◌, ◌≤◌, false, true, cond, None, Some, List, ◌∷◌, [], length, is_some, map, Contains, IsSome, IfOk, IfErr, OnOk, OnErr, MatchOption, MatchResult, IsTrue, ◌↔◌};
+ghost use Rattle.std.specs.Prelude.{◌≡◌, ◌≢◌, ◌⊎◌, ℕ, ◌+◌, ◌-◌, ◌*◌, ◌^◌, ◌<◌, ◌≤◌, false, true, cond, None, Some, List, ◌∷◌, [], length, is_some, map, flat_map, Contains, IsSome, IfOk, IfErr, OnOk, OnErr, MatchOption, MatchResult, IsTrue, ◌↔◌};
 ghost use Rattle.std.specs.FinMap as finmap;
+ghost use Rattle.std.specs.List.Sorted.{IsPermutation};
 ghost use Rattle.fee_rate.specs.Limits.{IsFee, IsRate};
 ghost use Rattle.fee_rate.specs.declared.limits.TheConstants.{MAX_TOTAL};
 ghost use Rattle.lists.specs.Distinct.{AreDistinct};
 ghost use Rattle.graphs.specs.Closures.{is_member, is_ancestor, rate_of, AddsPair, AreLinked, DropsPlace};
+ghost use Rattle.graphs.specs.Certificates.{Part};
 ghost use Rattle.graphs.specs.Graphs.{Lists};
+ghost use Rattle.graphs.specs.Unions.{IsKinOfSome};
 ghost use Rattle.graphs.specs.declared.names.Level.TheVariants.{Main, Top};
 ghost use Rattle.graph_model.specs.declared.names.Refusal.TheVariants.{Memory};
 ghost use Rattle.graph_model.specs.Answers.{order_of, StandsTo};
-ghost use Rattle.cluster.specs.Clusters.{IsCluster};
+ghost use Rattle.cluster.specs.Clusters.{Cluster, IsCluster};
 ghost use Rattle.cluster.specs.Steps.{GrowsWithin};
 ghost use Rattle.record.specs.Steps.{most_steps_fit};
 ghost use Rattle.graph_model.specs.Limits.{AreInRange, bounds_of};
@@ -18,7 +21,7 @@ ghost use Rattle.cluster_store.specs.Held.{Held};
 ghost use Rattle.cluster_store.specs.Lent.{lent};
 ghost use Rattle.diagram.specs.Parts.{AreLevelParts, YieldsParts};
 ghost use Rattle.levels.specs.Held.{IsHeldIn};
-ghost use Rattle.levels.specs.Orders.{ComparesParts, ListsCovers, sums_of};
+ghost use Rattle.levels.specs.Orders.{AreApart, ComparesParts, ListsCovers, sums_of};
 ghost use Rattle.levels.specs.Levels.{AddsName, ChangesTop, GrowsForFee, HavePicks, IsBest, IsLive, IsWithin, LosesNames, MayCome, SetsFeeIn, level_at, no_names};
 ghost use Rattle.levels.specs.Joins.{DepRefusalIs};
 ghost use Rattle.levels.specs.Lefts.{DropsWithin};
@@ -26,6 +29,7 @@ ghost use Rattle.levels.specs.Levels as specs_levels;
 ghost use Rattle.levels.specs.Mining.{MineRefusalIs};
 ghost use Rattle.levels.specs.Restores.{BringsNoneOver, BringsOver, MayRestore, PutsTxs, RestoresWithin};
 ghost use Rattle.levels.specs.Stays.{KeepsPicks};
+ghost use Rattle.levels.specs.Unions.{LieIn};
 ghost use Rattle.graphs.specs.declared.names.Level as graph_level;
 ghost use Rattle.levels.specs.Views.{AreItsClusters, HaveClusterNumbers, IsClusterOf};
 
@@ -39,6 +43,7 @@ use cluster_store::{HeldWalk, NameWalk, OverWalk, PartWalk, RateWalk, RecordWalk
 use component::{Component, Covers, Work};
 use fee_rate::FeeRate;
 use graph_model::{Level, Limits, Place, Refusal, TxId, Verdict};
+use graphs::{IdBuf, Kin};
 use name_book::NameBook;
 use outside::NoMemory;
 use repeats::Repeats;
@@ -443,6 +448,38 @@ impl<const W: usize> Levels<W> {
         self.shelves.overs(level)
     }
 
+    /// How many components of a level these names lie in. Names that the level hasn't are passed over, and a name may be listed twice. Takes
+    /// no memory, and puts the names into another order.
+    pub fn count_clusters(&self, level: Level, ids: &mut [TxId]) -> usize
+        ensures ids { IsPermutation ids.old ids.new }
+        ensures count { (clusters : List Cluster) × LieIn (level_at self.now level).graph ids.old clusters × (result ≡ length clusters) }
+    {
+        let _count = self.mains;
+        self.shelves.count_clusters(level, ids)
+    }
+
+    /// Leaves in `out` the ancestors, or the descendants, of these names, each once, in rising order; the names are among them. Names that the
+    /// level hasn't are passed over, and a name may be listed twice. Where `out` may not have room, it stays as it was, and the error is how
+    /// many names the components of these have. Takes no memory, and puts the names into another order.
+    pub fn kin(
+        &mut self,
+        level: Level,
+        ids: &mut [TxId],
+        kin: Kin,
+        out: &mut IdBuf,
+    ) -> Result<(), usize>
+        ensures ids { IsPermutation ids.old ids.new }
+        ensures lists { IfOk result (λ _. Lists (IsKinOfSome kin (level_at self.old level).graph ids.old) out.new.ids) }
+        ensures room { length out.new.ids + out.new.room ≡ length out.old.ids + out.old.room }
+        ensures err { IfErr result (λ needs. (out.new ≡ out.old) × (length out.old.ids + out.old.room < needs)) }
+        ensures needs { IfErr result (λ needs. (clusters : List Cluster) × LieIn (level_at self.old level).graph ids.old clusters
+            × (needs ≡ length (flat_map (λ c. c.names) clusters))) }
+        ensures same { self.new ≡ self.old }
+    {
+        let _count = self.mains;
+        self.shelves.kin(level, ids, kin, out)
+    }
+
     /// The names of a level, each once, one component after the other. Takes no memory. It costs the components of both levels, and the
     /// names of this one.
     pub fn names(&self, level: Level) -> NameWalk<'_, Stored<W>>
@@ -482,6 +519,16 @@ impl<const W: usize> Levels<W> {
     {
         let _count = self.mains;
         self.shelves.rates(level)
+    }
+
+    /// The fees and sizes, in satoshis and virtual bytes, of the parts that main alone has, and of those that staging alone has, each in its
+    /// level's order. All others are the same in both levels. Takes no memory, and looks at no cluster.
+    pub fn alone(&self) -> (RateWalk<'_>, RateWalk<'_>)
+        ensures { (mains tops : List Part) × AreApart self.now.main.parts (level_at self.now Top).parts mains tops
+            × (result.0 ≡ sums_of mains) × (result.1 ≡ sums_of tops) }
+    {
+        let _count = self.mains;
+        self.shelves.alone()
     }
 
     /// The part of main that has a name, or `None` where main hasn't the name. Main isn't over the limits. Takes no memory.

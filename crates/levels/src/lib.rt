@@ -23,5 +23,6 @@ mod restoring;
 mod settling;
 mod shelves;
 mod stored;
+mod unions;
 
 pub use levels::Levels;

@@ -1,5 +1,5 @@
 //! What is read of the orders of the levels. Nothing takes memory.
-ghost use Rattle.std.specs.Prelude.{◌≡◌, ◌≢◌, ◌↔◌, ◌≤◌, ℕ, true, false, Some, map, Contains, MatchOption};
+ghost use Rattle.std.specs.Prelude.{◌≡◌, ◌≢◌, ◌↔◌, ◌≤◌, ℕ, true, false, Some, List, map, Contains, MatchOption};
 ghost use Rattle.std.specs.FinMap as finmap;
 ghost use Rattle.lists.specs.Distinct.{AreDistinct};
 ghost use Rattle.fee_rate.specs.Limits.{IsRate};
@@ -16,7 +16,7 @@ ghost use Rattle.cluster_store.specs.Lent.{lent};
 ghost use Rattle.diagram.specs.Parts.{AreLevelParts};
 ghost use Rattle.levels.specs.Held.{IsHeldIn};
 ghost use Rattle.levels.specs.Levels.{IsBest};
-ghost use Rattle.levels.specs.Orders.{ComparesParts, ListsCovers, sums_of};
+ghost use Rattle.levels.specs.Orders.{AreApart, ComparesParts, ListsCovers, sums_of};
 ghost use Rattle.levels.specs.Places.{HasPart};
 ghost use Rattle.levels.specs.Oversize.{IsOversized};
 ghost use Rattle.levels.specs.Overs.{LendsOvers};
@@ -24,6 +24,7 @@ ghost use Rattle.levels.specs.Shelves.{HaveFew, IsInOrder, numbers_at, one_of};
 ghost use Rattle.levels.specs.Views.{AreItsClusters, HaveClusterNumbers};
 
 use crate::shelves::Shelves;
+use chunk_index::Tag;
 use cluster::PartRef;
 use cluster_store::{HeldWalk, NameWalk, OverWalk, PartWalk, RateWalk, RecordWalk, Stored};
 use component::Covers;
@@ -96,6 +97,18 @@ impl<const W: usize> Shelves<W> {
         ensures { result ≡ sums_of (one_of level self.now).parts }
     {
         self.store().rates(level)
+    }
+
+    /// The fees and sizes of the parts of the clusters that stand in main alone, and of those that stand in the top level alone.
+    pub(crate) fn alone(&self) -> (RateWalk<'_>, RateWalk<'_>)
+        ensures { (mains tops : List Part) × AreApart (one_of Main self.now).parts (one_of Top self.now).parts mains tops
+            × (result.0 ≡ sums_of mains) × (result.1 ≡ sums_of tops) }
+    {
+        let store = self.store();
+        (
+            store.rates_only(Tag::MainOnly),
+            store.rates_only(Tag::TopOnly),
+        )
     }
 
     /// The part of main that has a name, or `None` where main hasn't the name.

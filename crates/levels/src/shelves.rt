@@ -11,6 +11,7 @@ ghost use Rattle.levels.specs.Tops.{HasFront, HaveSameNames, IsMade};
 ghost use Rattle.levels.specs.Shelves.{IsInOrder, no_clusters, numbers_at, seen_at, stored_at, tag_at};
 ghost use Rattle.graph_model.specs.Limits.{AreInRange, bounds_of};
 ghost use Rattle.graphs.specs.Closures.{is_ancestor};
+ghost use Rattle.graphs.specs.Unions.{IsKinOfSome, PutsBehind};
 ghost use Rattle.record.specs.Records.{IsFitted};
 ghost use Rattle.cluster_store.specs.Unordered.{LacksOrder};
 ghost use Rattle.name_book.specs.Books.{IsNamed};
@@ -23,6 +24,7 @@ use chunk_index::Tag;
 use cluster_store::{ClusterStore, Exchange, Made};
 use component::Component;
 use graph_model::{Level, Limits, TxId};
+use graphs::{IdBuf, Kin};
 use name_book::NameBook;
 use outside::NoMemory;
 use record::Record;
@@ -140,6 +142,20 @@ impl<const W: usize> Shelves<W> {
     {
         let _numbers = &self.numbers;
         self.store.lacks(number, id, &Touched { rings })
+    }
+
+    /// Puts behind `out` the ancestors, or the descendants, of names of a cluster, each once; the names themselves are among them. `out` has
+    /// room for as many as the cluster has. Takes no memory.
+    pub(crate) fn add_kin(&mut self, number: usize, ids: &[TxId], kin: Kin, out: &mut IdBuf)
+        requires { (c : records.Cluster) × (stored_at self.old.store.clusters number ≡ Some c)
+            × ((id : ℕ) → Contains ids.now id → Contains c.names id) × (length c.names ≤ out.old.room) }
+        ensures adds { (c : records.Cluster) → stored_at self.old.store.clusters number ≡ Some c
+            → PutsBehind (IsKinOfSome kin c.graph ids.now) out.old.ids out.new.ids }
+        ensures room { length out.new.ids + out.new.room ≡ length out.old.ids + out.old.room }
+        ensures same { self.new ≡ self.old }
+    {
+        let _numbers = &self.numbers;
+        self.store.add_kin(number, ids, kin, out)
     }
 
     /// Whether a cluster of a level is over the limits. Takes no memory, and costs nothing where none is.

@@ -24,3 +24,4 @@ pub mod Sized
 pub mod Lost
 pub mod Listed
 pub mod Overs
+pub mod Kins

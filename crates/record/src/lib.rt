@@ -12,6 +12,7 @@
 
 mod joining;
 mod kept;
+mod kin;
 mod leaving;
 mod listing;
 mod over;

@@ -5,7 +5,7 @@ ghost use Rattle.graphs.specs.Closures.{is_ancestor};
 ghost use Rattle.links.specs.Links.{Has};
 
 use component::Component;
-use graphs::TxId;
+use graphs::{Kin, TxId};
 use links::Links;
 
 /// A test of names that a caller keeps somewhere else, as a set of marks.
@@ -50,7 +50,7 @@ pub(crate) fn lacks_over<T: Listing>(links: &mut Links, id: TxId, listing: &T) -
     ensures lacks { IsTrue result ↔ ((a : ℕ) × IsAncestor links.old.pairs a id × (T.listed listing.now a → ⊥)) }
     ensures same { links.new ≡ links.old }
 {
-    for above in links.ancestors(id) {
+    for above in links.kin(&[id], Kin::Ancestors) {
         if !listing.lists(above) {
             return true;
         }

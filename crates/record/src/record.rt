@@ -2,6 +2,7 @@ ghost use Rattle.std.specs.Prelude.{◌≡◌, ◌≢◌, ◌↔◌, ℕ, ◌+�
 ghost use Rattle.fee_rate.specs.Limits.{IsFee, IsRate};
 ghost use Rattle.fee_rate.specs.declared.limits.TheConstants.{MAX_SIZE, MAX_TOTAL};
 ghost use Rattle.graphs.specs.Closures.{is_ancestor, rate_of, AddsPair, SetsFee};
+ghost use Rattle.graphs.specs.Unions.{IsKinOfSome, PutsBehind};
 ghost use Rattle.cluster.specs.Clusters.{IsCluster};
 ghost use Rattle.cluster.specs.Changes.{AreComponents, IsSingle, IsSplit, Joins};
 ghost use Rattle.cluster.specs.Steps.{GrowsWithin, most_steps};
@@ -17,13 +18,14 @@ ghost use Rattle.graph_model.specs.declared.names.Limits as graph_limits;
 
 use crate::joining::{are_over, joined_over};
 use crate::kept::{Kept, Unordered};
+use crate::kin::add_over;
 use crate::leaving::{all_within, split_up};
 use crate::listing::{Listing, lacks_over, lacks_within};
 use crate::solving::ordered;
 use component::{Component, Work};
 use fee_rate::FeeRate;
 use graph_model::Limits;
-use graphs::TxId;
+use graphs::{IdBuf, Kin, TxId};
 use links::Links;
 use outside::NoMemory;
 use std::alloc::Global;
@@ -224,6 +226,21 @@ impl<const W: usize> Record<W> {
         match &mut self.kept {
             Kept::Within(component) => lacks_within(component, id, listing),
             Kept::Over(over) => lacks_over(&mut over.links, id, listing),
+        }
+    }
+
+    /// Puts behind `out` the ancestors, or the descendants, of names of this record, each once; the names themselves are among them. A
+    /// name may be listed twice. Takes no memory.
+    pub fn add_kin(&mut self, ids: &[TxId], kin: Kin, out: &mut IdBuf)
+        requires ids { (id : ℕ) → Contains ids.now id → Contains self.old.names id }
+        requires room { length self.old.names ≤ out.old.room }
+        ensures adds { PutsBehind (IsKinOfSome kin self.old.graph ids.now) out.old.ids out.new.ids }
+        ensures room { length out.new.ids + out.new.room ≡ length out.old.ids + out.old.room }
+        ensures same { self.new ≡ self.old }
+    {
+        match &mut self.kept {
+            Kept::Within(component) => component.add_kin(ids, kin, out),
+            Kept::Over(over) => add_over(&mut over.links, ids, kin, out),
         }
     }
 

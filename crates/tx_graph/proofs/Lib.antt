@@ -26,3 +26,5 @@ mod Starts
 mod Returns
 mod Backs
 mod Asked
+pub mod Kins
+pub mod MainOrders

@@ -54,7 +54,7 @@ steps_counted kept level n picked long =
 
 module _ (level : OneLevel) (graph : Graph) (of : IsGraphOf level graph) (id : ℕ) (ids : List ℕ) (live : is_member level.graph id ≡ true) where
   -- a name of a level is an ancestor of itself
-  above_of : (a d : ℕ) → (a ≡ id) ⊎ (d ≡ id) → IsAncestor graph.pairs a d → is_ancestor level.graph a d ≡ true
+  pub above_of : (a d : ℕ) → (a ≡ id) ⊎ (d ≡ id) → IsAncestor graph.pairs a d → is_ancestor level.graph a d ≡ true
   above_of a d one walk = elim ((told level graph of a d).0 walk) [
     | inl same ↦
         let is : d ≡ id = elim one [ inl first ↦ sym same ∙ first | inr second ↦ second ] in

@@ -131,7 +131,7 @@ fn needs_staging<const W: usize>(levels: &Levels<W>) -> Result<(), Refusal>
 }
 
 /// Refuses where no staging is open, and else where one of the levels is oversized.
-fn needs_orders<const W: usize>(levels: &Levels<W>) -> Result<(), Refusal>
+pub(crate) fn needs_orders<const W: usize>(levels: &Levels<W>) -> Result<(), Refusal>
     ensures { MatchResult result
         (λ _. IsSome levels.now.staging × IsWithin levels.now Main × IsWithin levels.now Top)
         (λ why. CompareRefusalIs levels.now (Some why)) }

@@ -21,17 +21,24 @@
 //! - `compare` and `settle` walk the chunks that stand in one level alone. Where the last chunk of a level has a fee below 0, they also walk the
 //!   worst of the chunks in both levels, from the last one upward while fees are below 0, until these are as large as the difference
 //!   between the sizes of what stands in one level alone.
+//! - `ancestors_union`, `descendants_union` and `count_distinct_clusters` sort the names that they are given by the numbers of their
+//!   clusters, and look at each cluster once. `sort_by_main_order` compares two names by their chunks' places in the index.
+//! - `main_staging_diagrams` walks the chunks that stand in one level alone.
 //! - `order` and `diagram` walk the index, and `names` and `components` walk the clusters of both levels. No reading takes memory.
 //! - A change takes all its memory before it changes anything. So a call that is refused for want of memory leaves the graph as it was.
 #![tactic(auto)]
 
 mod graph;
+mod main_order;
 mod mining;
 mod order;
 mod restoring;
+mod unions;
 
 pub use cluster::PartRef;
 pub use component::{Component, Covers};
 pub use graph::TxGraph;
-pub use order::{Components, Diagram, Forward, Held, Names, Numbered, Order, OrderBack, Over};
+pub use order::{
+    Components, Diagram, Forward, Held, Names, Numbered, Order, OrderBack, Over, Rates,
+};
 pub use record::Record;

@@ -30,6 +30,9 @@ pub type Names<'a, const W: usize> = NameWalk<'a, Stored<W>>;
 /// The corners of a level's diagram from (0, 0) on, each a size, in virtual bytes, and the fee there, in satoshis.
 pub type Diagram<'a, const W: usize> = Corners<RateWalk<'a>>;
 
+/// The fees, in satoshis, and sizes, in virtual bytes, of chunks in their order.
+pub type Rates<'a> = RateWalk<'a>;
+
 /// Parts in their order, lent, from either end. Contracts see those that are still to come.
 #[derive(Drop)]
 pub struct Forward<'a, T: Parts> {
