@@ -1,6 +1,6 @@
 -- The ancestors, or the descendants, of names that lie in several clusters, and which clusters these are.
 use Rattle.std.proofs.Common.{◌≡◌, ◌↔◌, ℕ, zero, suc, ◌+◌, ◌*◌, ◌<◌, ◌≤◌, Bool, true, List, [], ◌∷◌, ◌++◌, length, flat_map, get_or, nat_eq, Contains, Option, None, Some, is_some, inl, inr, refl, sym, ap, ap₂, ◌∙◌, subst, append_assoc, append-nil, length-append, ne_eqb, arith}
-use Rattle.std.specs.Prelude.{option_to_list}
+use Rattle.std.specs.Prelude.{IfErr, Result, Ok, Err, option_to_list}
 use Rattle.std.specs.Cmp.{nat_eq_equiv}
 use Rattle.std.specs.FinMap as finmap
 use Rattle.std.specs.List.{IsDistinct}
@@ -287,6 +287,13 @@ module _ (w : ℕ) (level : Level) (shelf : Shelf) (order : IsInOrder w shelf) w
         one_each at ns (λ n here. let found = (under.exact n).0 here in let its = held found.0 n found.2 in (its.0, its.1)),
         ap length names,
       )
+
+  -- and so with what an error tells
+  pub needs_lie : {T : Type 0} (ids : List ℕ) (r : Result T ℕ)
+      → IfErr r (λ needs. (ns : List ℕ) × LieUnder level shelf ids ns × (needs ≡ length (names_under level shelf ns)))
+      → IfErr r (λ needs. (clusters : List Cluster) × LieIn graph ids clusters × (needs ≡ length (flat_map (λ (c : Cluster). c.names) clusters)))
+  needs_lie ids (Ok x) told = tt
+  needs_lie ids (Err n) (ns, under, is) = let lie = lie_in ids ns under in (lie.0, lie.1, is ∙ sym lie.3)
 
   -- ---- kin are of one cluster
 

@@ -1,0 +1,11 @@
+-- the names so far have the number
+use Rattle.std.proofs.Common.{◌≡◌, ◌≤◌, length, take, All}
+use Rattle.std.specs.FinMap as finmap
+use Rattle.levels.specs.Shelves.{numbers_at}
+use Rattle.levels.proofs.shelves.Shelves.run_length.Given as goal
+
+abbrev pub invariant-loop-at : goal.invariant-loop-at
+invariant-loop-at g l = record {
+  within : l.at ≤ length l.ids.now;
+  same : All (λ id. finmap.get (numbers_at l.level l.self.now) id ≡ l.number) (take l.at l.ids.now);
+}
