@@ -1,8 +1,9 @@
 -- Places that were found, each with a mark.
-use Rattle.std.proofs.Common.{length-append, ◌≡◌, ◌≢◌, ℕ, zero, suc, ◌+◌, ◌<◌, ◌≤◌, Bool, true, false, List, [], ◌∷◌, ◌++◌, length, get_or, set, true≢false, refl, sym, ap, ◌∙◌, subst, inl, inr, arith}
-use Rattle.std.specs.Prelude.{Contains}
+use Rattle.std.proofs.Common.{length-append, ◌≡◌, ◌≢◌, ℕ, zero, suc, ◌+◌, ◌<◌, ◌≤◌, Bool, true, false, List, [], ◌∷◌, ◌++◌, length, get_or, set, take, Option, Some, true≢false, refl, sym, ap, ◌∙◌, subst, inl, inr, arith}
+use Rattle.std.specs.Prelude.{Contains, ◌↔◌}
 use Rattle.std.proofs.lemmas.Bool.{cases_eq}
-use Rattle.std.proofs.lemmas.List.{get_or-set_same, get_or-set_other, length-set, get_or_default, length_push, get_or_append_left}
+use Rattle.std.proofs.lemmas.List.{get_or-set_same, get_or-set_other, length-set, get_or_default, length_push, get_or_append_left, take_more}
+use Rattle.std.proofs.lemmas.Option.{same_Some}
 use Rattle.std.proofs.lemmas.List.Elements.{Contains-push, Contains-push_cases, Contains-append_left, Contains-append_cases}
 use Rattle.std.proofs.lemmas.List.FromFn.{length-range_with_len}
 use Rattle.std.specs.List.{range_with_len}
@@ -12,7 +13,8 @@ use Rattle.lists.proofs.Entries.{none_in_empty}
 use Rattle.lists.proofs.Ranges.{Contains-range}
 use Rattle.graphs.specs.Graphs.{Walk, IsAncestor}
 use Rattle.graphs.proofs.WalkLemmas.{walk_cons}
-use Rattle.links.specs.Walkers.{mark_at, AreMarked, Finds, FindsAll}
+use Rattle.links.specs.Places.{IsPlaceOf}
+use Rattle.links.specs.Walkers.{mark_at, AreMarked, Finds, FindsAll, FindsFrom}
 
 -- places below a count, each once, are no more
 pub few_below : (count : ℕ) (xs : List ℕ) → AreDistinct xs → ((p : ℕ) → Contains xs p → p < count) → length xs ≤ count
@@ -109,19 +111,18 @@ closed_has steps found closed a b (suc n) (c, walk, step) (j, low, at) =
     let is : get_or found j 0 ≡ b = get_or_default found j 0 b low ∙ at in
     closed_has steps found closed a c n walk (closed j c low (subst (λ (x : ℕ). Contains {X = ℕ × ℕ} steps (c, x)) (sym is) step))
 
--- how far a walk has come: the places before `done` were looked around from
-pub record IsOnWay (steps : List (ℕ × ℕ)) (from done : ℕ) (found : List ℕ) : Type 0 where
+-- how far a walk from some starts has come: the places before `done` were looked around from
+pub record IsOnWay (steps : List (ℕ × ℕ)) (starts : List ℕ) (done : ℕ) (found : List ℕ) : Type 0 where
   pub done_is : done ≤ length found
-  pub start : Contains found from
-  pub sound : (p : ℕ) → Contains found p → IsAncestor steps p from
+  pub start : (p : ℕ) → Contains starts p → Contains found p
+  pub sound : (p : ℕ) → Contains found p → (from : ℕ) × Contains starts from × IsAncestor steps p from
   pub closed : (j to : ℕ) → j < done → Contains {X = ℕ × ℕ} steps (to, get_or found j 0) → Contains found to
 
-pub way_first : (steps : List (ℕ × ℕ)) (from : ℕ) (found : List ℕ) → Finds (λ p. p ≡ from) [] found → Contains found from
-    → IsOnWay steps from 0 found
-way_first steps from found finds here = record {
+pub way_first : (steps : List (ℕ × ℕ)) (starts : List ℕ) → IsOnWay steps starts 0 starts
+way_first steps starts = record {
   done_is = omega arith;
-  start = here;
-  sound = λ p there. (0, finds.each p (subst (λ (xs : List ℕ). Contains xs p) finds.is there));
+  start = λ p here. here;
+  sound = λ p here. (p, here, (0, refl));
   closed = λ j to low step. absurd (omega arith);
 }
 
@@ -131,22 +132,21 @@ found_stays P old new p finds here = subst (λ (xs : List ℕ). Contains xs p) (
 pub found_longer : (P : ℕ → Type 0) (old new : List ℕ) → Finds P old new → length old ≤ length new
 found_longer P old new finds = omega (arith, ap length finds.is, length-append old finds.more)
 
-pub way_next : (steps : List (ℕ × ℕ)) (from done place : ℕ) (old new : List ℕ) → IsOnWay steps from done old → done < length old
+pub way_next : (steps : List (ℕ × ℕ)) (starts : List ℕ) (done place : ℕ) (old new : List ℕ) → IsOnWay steps starts done old → done < length old
     → get_or old done 0 ≡ place → Finds (λ to. Contains {X = ℕ × ℕ} steps (to, place)) old new
-    → ((to : ℕ) → Contains {X = ℕ × ℕ} steps (to, place) → Contains new to) → IsOnWay steps from (done + 1) new
-way_next steps from done place old new way low is finds all =
+    → ((to : ℕ) → Contains {X = ℕ × ℕ} steps (to, place) → Contains new to) → IsOnWay steps starts (done + 1) new
+way_next steps starts done place old new way low is finds all =
     let P : ℕ → Type 0 = λ to. Contains {X = ℕ × ℕ} steps (to, place) in
     let longer : length old ≤ length new = found_longer P old new finds in
     let kept : (j : ℕ) → j < length old → get_or new j 0 ≡ get_or old j 0 =
     λ j in'. ap (λ (xs : List ℕ). get_or xs j 0) finds.is ∙ get_or_append_left old finds.more 0 j in' in
-    let place_in : IsAncestor steps place from =
-    way.sound place (done, low, get_or_default old done place 0 low ∙ is) in
+    let (from, begun, walk) = way.sound place (done, low, get_or_default old done place 0 low ∙ is) in
     record {
       done_is = omega arith;
-      start = found_stays P old new from finds way.start;
+      start = λ p here. found_stays P old new p finds (way.start p here);
       sound = λ p here. elim (Contains-append_cases old finds.more p (subst (λ (xs : List ℕ). Contains xs p) finds.is here)) [
         | inl there ↦ way.sound p there
-        | inr fresh ↦ (suc place_in.0, walk_cons steps p place from place_in.0 (finds.each p fresh) place_in.1)
+        | inr fresh ↦ (from, begun, (suc walk.0, walk_cons steps p place from walk.0 (finds.each p fresh) walk.1))
       ];
       closed = λ j to below step. elim (cases_eq j done) [
         | inl same ↦
@@ -159,12 +159,56 @@ way_next steps from done place old new way low is finds all =
       ];
     }
 
-pub way_all : (steps : List (ℕ × ℕ)) (from done : ℕ) (found : List ℕ) → IsOnWay steps from done found → length found ≤ done
-    → AreDistinct found → FindsAll steps from found
-way_all steps from done found way all once = record {
+pub way_all : (steps : List (ℕ × ℕ)) (starts : List ℕ) (done : ℕ) (found : List ℕ) → IsOnWay steps starts done found → length found ≤ done
+    → AreDistinct found → FindsFrom steps (Contains starts) found
+way_all steps starts done found way all once = record {
   once = once;
   exact = λ p. (
     (λ here. way.sound p here),
-    (λ walk. closed_has steps found (λ j to low step. way.closed j to (omega arith) step) p from walk.0 walk.1 way.start),
+    (λ (from, begun, walk). closed_has steps found (λ j to low step. way.closed j to (omega arith) step) p from walk.0 walk.1 (way.start from begun)),
   );
 }
+
+-- ---- where a walk starts
+
+-- from one place
+pub found_from_one : (steps : List (ℕ × ℕ)) (from : ℕ) (starts found : List ℕ) → Finds (λ p. p ≡ from) [] starts → Contains starts from
+    → FindsFrom steps (Contains starts) found → FindsAll steps from found
+found_from_one steps from starts found finds here all = record {
+  once = all.once;
+  exact = λ p. (
+    (λ there.
+        let (q, begun, walk) = (all.exact p).0 there in
+        subst (IsAncestor steps p) (finds.each q (subst (λ (xs : List ℕ). Contains xs q) finds.is begun)) walk),
+    (λ walk. (all.exact p).1 (from, here, walk)),
+  );
+}
+
+-- from the places of names
+pub found_from_places : (find : ℕ → Option ℕ) (ids : List ℕ) (steps : List (ℕ × ℕ)) (starts found : List ℕ)
+    → ((p : ℕ) → Contains starts p ↔ IsPlaceOf find ids p) → FindsFrom steps (Contains starts) found → FindsFrom steps (IsPlaceOf find ids) found
+found_from_places find ids steps starts found are all = record {
+  once = all.once;
+  exact = λ p. (
+    (λ there. let (q, begun, walk) = (all.exact p).0 there in (q, (are q).0 begun, walk)),
+    (λ (q, begun, walk). (all.exact p).1 (q, (are q).1 begun, walk)),
+  );
+}
+
+-- one name more
+pub places_more : (find : ℕ → Option ℕ) (ids : List ℕ) (k place : ℕ) (old new : List ℕ) → k < length ids → find (get_or ids k 0) ≡ Some place
+    → ((p : ℕ) → Contains old p ↔ IsPlaceOf find (take k ids) p) → Finds (λ p. p ≡ place) old new → Contains new place
+    → (p : ℕ) → Contains new p ↔ IsPlaceOf find (take (k + 1) ids) p
+places_more find ids k place old new low at are finds here p =
+    let id : ℕ = get_or ids k 0 in
+    let grown : take (k + 1) ids ≡ take k ids ++ id ∷ [] = take_more ids k 0 low in
+    subst (λ (xs : List ℕ). Contains new p ↔ IsPlaceOf find xs p) (sym grown) (
+      (λ there. elim (Contains-append_cases old finds.more p (subst (λ (xs : List ℕ). Contains xs p) finds.is there)) [
+        | inl early ↦ let (a, in', is) = (are p).0 early in (a, Contains-append_left (take k ids) (id ∷ []) a in', is)
+        | inr late ↦ (id, Contains-push (take k ids) id, at ∙ ap Some (sym (finds.each p late)))
+      ]),
+      (λ (a, in', is). elim (Contains-push_cases (take k ids) id a in') [
+        | inl early ↦ found_stays (λ q. q ≡ place) old new p finds ((are p).1 (a, early, is))
+        | inr same ↦ subst (Contains new) (same_Some place p (sym at ∙ ap find same ∙ is)) here
+      ]),
+    )

@@ -1,16 +1,23 @@
 -- Walks between places as walks between names.
-use Rattle.std.proofs.Common.{◌≡◌, ℕ, zero, suc, ◌<◌, List, length, map, get_or, Option, Some, refl, sym, ap, ◌∙◌, subst, arith}
+use Rattle.std.proofs.Common.{◌≡◌, ℕ, zero, suc, ◌<◌, List, [], ◌∷◌, nat_eq, length, map, get_or, Option, Some, refl, sym, ap, ◌∙◌, subst, arith}
 use Rattle.std.specs.Prelude.{Contains, ◌↔◌}
+use Rattle.std.specs.HashMap as hash
 use Rattle.std.proofs.lemmas.List.{get_or_default}
 use Rattle.std.proofs.lemmas.List.Elements.{Contains-get_or}
 use Rattle.std.proofs.lemmas.Option.{same_Some}
 use Rattle.lists.specs.Distinct.{AreDistinct}
 use Rattle.lists.proofs.Distinct.{distinct_map}
-use Rattle.lists.proofs.Entries.{Contains-map, map-Contains}
+use Rattle.lists.proofs.Entries.{Contains-head, Contains-map, Contains-one, map-Contains}
 use Rattle.graphs.specs.Graphs.{Walk, IsAncestor}
+use Rattle.graphs.specs.Certificates.{Txs}
+use Rattle.graphs.specs.Unions.{IsKin}
+use Rattle.graphs.specs.declared.names.Kin.{Kin}
+use Rattle.graphs.specs.declared.names.Kin.TheVariants.{Ancestors, Descendants}
 use Rattle.links.specs.Ways.{step_at, AreWithin, turned}
-use Rattle.links.specs.Places.{ArePlaces, AreSteps}
-use Rattle.links.specs.Walkers.{FindsAll}
+use Rattle.links.specs.Kept.{AreMaps, names_of, ways_to}
+use Rattle.links.specs.Places.{ArePlaces, AreSteps, Finds, IsPlaceOf}
+use Rattle.links.specs.Walkers.{FindsAll, FindsFrom}
+use Rattle.links.specs.declared.maps.Maps.{Maps}
 use Rattle.links.proofs.Turning.{turned_ancestors}
 
 -- ---- places that are found are among so many
@@ -86,43 +93,57 @@ walk_down find pairs steps s a b (suc n) p at (c, walk, pair) =
 
 -- ---- what walks find, by names
 
-pub found_up : (names : List ℕ) (find : ℕ → Option ℕ) (pairs steps : List (ℕ × ℕ)) (id p : ℕ) (found : List ℕ) → ArePlaces names find
-    → AreSteps find pairs steps → find id ≡ Some p → FindsAll steps p found
-    → (a : ℕ) → Contains (map (λ q. get_or names q 0) found) a ↔ IsAncestor pairs a id
-found_up names find pairs steps id p found h s at all a =
+-- kin of places are kin of their names
+kin_named : (kin : Kin) (names : List ℕ) (find : ℕ → Option ℕ) (pairs steps : List (ℕ × ℕ)) → ArePlaces names find → AreSteps find pairs steps
+    → (p q : ℕ) → IsKin kin steps p q → IsKin kin pairs (get_or names p 0) (get_or names q 0)
+kin_named Ancestors names find pairs steps h s p q walk = (walk.0, walk_named names find pairs steps h s p q walk.0 walk.1)
+kin_named Descendants names find pairs steps h s p q walk = (walk.0, walk_named names find pairs steps h s q p walk.0 walk.1)
+
+kin_placed : (kin : Kin) (find : ℕ → Option ℕ) (pairs steps : List (ℕ × ℕ)) → AreSteps find pairs steps → (a b p : ℕ) → find b ≡ Some p
+    → IsKin kin pairs a b → (q : ℕ) × (find a ≡ Some q) × IsKin kin steps q p
+kin_placed Ancestors find pairs steps s a b p at walk =
+    let (q, there, back) = walk_up find pairs steps s a b walk.0 p at walk.1 in (q, there, (walk.0, back))
+kin_placed Descendants find pairs steps s a b p at walk =
+    let (q, there, way) = walk_down find pairs steps s b a walk.0 p at walk.1 in (q, there, (walk.0, way))
+
+-- the ways to kin lead to them
+ways_lead : (kin : Kin) (maps : Maps) → maps.down.steps.items ≡ map turned maps.up.steps.items
+    → (p q : ℕ) → IsAncestor (ways_to kin maps).steps.items p q ↔ IsKin kin maps.up.steps.items p q
+ways_lead Ancestors maps back p q = ((λ walk. walk), (λ walk. walk))
+ways_lead Descendants maps back p q =
+    subst (λ (ss : List (ℕ × ℕ)). IsAncestor ss p q ↔ IsAncestor maps.up.steps.items q p) (sym back) (turned_ancestors maps.up.steps.items p q)
+
+pub found_kin : (kin : Kin) (txs : Txs) (pairs : List (ℕ × ℕ)) (maps : Maps) (ids found : List ℕ) → AreMaps txs pairs maps
+    → ((id : ℕ) → Contains ids id → Finds (hash.get nat_eq maps.places) id)
+    → FindsFrom (ways_to kin maps).steps.items (IsPlaceOf (hash.get nat_eq maps.places) ids) found
+    → (a : ℕ) → Contains (map (λ q. get_or (names_of txs) q 0) found) a ↔ ((id : ℕ) × Contains ids id × IsKin kin pairs a id)
+found_kin kin txs pairs maps ids found are placed all a =
+    let names : List ℕ = names_of txs in
+    let find : ℕ → Option ℕ = hash.get nat_eq maps.places in
+    let steps : List (ℕ × ℕ) = maps.up.steps.items in
+    let h = are.places in
     let nm : ℕ → ℕ = λ q. get_or names q 0 in
-    let own : nm p ≡ id = (h.sound id p at).1 in (
+    let lead = ways_lead kin maps are.back in (
       (λ here.
           let (q, there, is) = map-Contains nm found a here in
-          let walk = (all.exact q).0 there in (
-            walk.0,
-            subst (λ (x : ℕ). Walk pairs x id walk.0) is (subst (λ (x : ℕ). Walk pairs (nm q) x walk.0) own
-                (walk_named names find pairs steps h s q p walk.0 walk.1)),
-          )),
-      (λ walk.
-          let (q, found_at, back) = walk_up find pairs steps s a id walk.0 p at walk.1 in
-          subst (λ (x : ℕ). Contains (map nm found) x) (h.sound a q found_at).1
-          (Contains-map nm found q ((all.exact q).1 (walk.0, back)))),
+          let (p, (id, listed, at), walk) = (all.exact q).0 there in
+          let near : IsKin kin pairs (nm q) (nm p) = kin_named kin names find pairs steps h are.steps q p ((lead q p).0 walk) in
+          let own : IsKin kin pairs (nm q) id = subst (IsKin kin pairs (nm q)) (h.sound id p at).1 near in
+          (id, listed, subst (λ (x : ℕ). IsKin kin pairs x id) is own)),
+      (λ (id, listed, near).
+          let (p, at) = placed id listed in
+          let (q, there, close) = kin_placed kin find pairs steps are.steps a id p at near in
+          subst (Contains (map nm found)) (h.sound a q there).1
+          (Contains-map nm found q ((all.exact q).1 (p, (id, listed, at), (lead q p).1 close)))),
     )
 
-pub found_down : (names : List ℕ) (find : ℕ → Option ℕ) (pairs steps : List (ℕ × ℕ)) (id p : ℕ) (found : List ℕ) → ArePlaces names find
-    → AreSteps find pairs steps → find id ≡ Some p → FindsAll (map turned steps) p found
-    → (d : ℕ) → Contains (map (λ q. get_or names q 0) found) d ↔ IsAncestor pairs id d
-found_down names find pairs steps id p found h s at all d =
-    let nm : ℕ → ℕ = λ q. get_or names q 0 in
-    let own : nm p ≡ id = (h.sound id p at).1 in (
-      (λ here.
-          let (q, there, is) = map-Contains nm found d here in
-          let walk = (turned_ancestors steps q p).0 ((all.exact q).0 there) in (
-            walk.0,
-            subst (λ (x : ℕ). Walk pairs id x walk.0) is (subst (λ (x : ℕ). Walk pairs x (nm q) walk.0) own
-                (walk_named names find pairs steps h s p q walk.0 walk.1)),
-          )),
-      (λ walk.
-          let (q, found_at, way) = walk_down find pairs steps s id d walk.0 p at walk.1 in
-          subst (λ (x : ℕ). Contains (map nm found) x) (h.sound d q found_at).1
-          (Contains-map nm found q ((all.exact q).1 ((turned_ancestors steps q p).1 (walk.0, way))))),
-    )
+-- what a call finds that lists one name
+pub kin_of_one : (kin : Kin) (pairs : List (ℕ × ℕ)) (id : ℕ) (found : List ℕ)
+    → ((a : ℕ) → Contains found a ↔ ((x : ℕ) × Contains (id ∷ []) x × IsKin kin pairs a x)) → (a : ℕ) → Contains found a ↔ IsKin kin pairs a id
+kin_of_one kin pairs id found exact a = (
+  (λ here. let (x, listed, near) = (exact a).0 here in subst (IsKin kin pairs a) (sym (Contains-one id x listed)) near),
+  (λ near. (exact a).1 (id, Contains-head id [], near)),
+)
 
 -- each name once
 pub names_once : (names : List ℕ) (find : ℕ → Option ℕ) (found : List ℕ) → ArePlaces names find → AreDistinct found

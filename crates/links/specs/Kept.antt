@@ -2,11 +2,14 @@
 use Rattle.std.specs.Prelude.{◌≡◌, ◌≤◌, ℕ, List, length, map, nat_eq}
 use Rattle.std.specs.HashMap as hash
 use Rattle.graphs.specs.Certificates.{Txs}
+use Rattle.graphs.specs.declared.names.Kin.{Kin}
+use Rattle.graphs.specs.declared.names.Kin.TheVariants.{Ancestors, Descendants}
 use Rattle.links.specs.Links.{AreLinks}
 use Rattle.links.specs.Ways.{AreWays, turned}
 use Rattle.links.specs.Walkers.{IsReady}
 use Rattle.links.specs.Places.{ArePlaces, AreSteps}
 use Rattle.links.specs.declared.maps.Maps.{Maps}
+use Rattle.links.specs.declared.ways.Ways.{Ways}
 use Rattle.links.specs.declared.walker.Walker.{Walker}
 use Rattle.links.specs.declared.link_walk.LinkWalk.{LinkWalk}
 
@@ -20,6 +23,11 @@ pub record AreMaps (txs : Txs) (pairs : List (ℕ × ℕ)) (maps : Maps) : Type 
   pub down : AreWays (length txs) maps.down
   pub steps : AreSteps (hash.get nat_eq maps.places) pairs maps.up.steps.items
   pub back : maps.down.steps.items ≡ map turned maps.up.steps.items
+
+-- the steps to ancestors, or to descendants
+abbrev pub ways_to : Kin → Maps → Ways
+ways_to Ancestors maps = maps.up
+ways_to Descendants maps = maps.down
 
 -- What links keep, with room for so many names.
 pub record AreKept (txs : Txs) (pairs : List (ℕ × ℕ)) (maps : Maps) (walker : Walker) (room : ℕ) : Type 0 where

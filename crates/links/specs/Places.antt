@@ -1,5 +1,5 @@
 -- Names as places: where each stands among the names.
-use Rattle.std.specs.Prelude.{◌≡◌, ℕ, ◌<◌, List, length, Option, Some, slice_index}
+use Rattle.std.specs.Prelude.{◌≡◌, ℕ, ◌<◌, List, length, Option, Some, slice_index, Contains}
 use Rattle.links.specs.Ways.{step_at}
 
 -- A look-up finds a name at its place, and no other number.
@@ -10,6 +10,10 @@ pub record ArePlaces (names : List ℕ) (find : ℕ → Option ℕ) : Type 0 whe
 -- a look-up finds this name
 abbrev pub Finds : (ℕ → Option ℕ) → ℕ → Type 0
 Finds find id = (place : ℕ) × (find id ≡ Some place)
+
+-- a look-up finds this place for one of these names
+abbrev pub IsPlaceOf : (ℕ → Option ℕ) → List ℕ → ℕ → Type 0
+IsPlaceOf find ids place = (id : ℕ) × Contains ids id × (find id ≡ Some place)
 
 -- a look-up finds both ends of each pair
 abbrev pub FindsEnds : (ℕ → Option ℕ) → List (ℕ × ℕ) → Type 0

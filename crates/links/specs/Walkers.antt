@@ -36,3 +36,8 @@ pub record Finds (P : ℕ → Type 0) (old new : List ℕ) : Type 0 where
 pub record FindsAll (steps : List (ℕ × ℕ)) (from : ℕ) (found : List ℕ) : Type 0 where
   pub once : AreDistinct found
   pub exact : (place : ℕ) → Contains found place ↔ IsAncestor steps place from
+
+-- What a whole walk from several starts finds: each ancestor of one of them, once.
+pub record FindsFrom (steps : List (ℕ × ℕ)) (IsStart : ℕ → Type 0) (found : List ℕ) : Type 0 where
+  pub once : AreDistinct found
+  pub exact : (place : ℕ) → Contains found place ↔ ((from : ℕ) × IsStart from × IsAncestor steps place from)

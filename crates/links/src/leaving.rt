@@ -5,7 +5,7 @@ ghost use Rattle.links.specs.Links.{Has};
 ghost use Rattle.links.specs.Leaving.{Adds, Crosses, CrossesOne, NoneEnters, Serves, Tells};
 
 use crate::links::Links;
-use graphs::TxId;
+use graphs::{Kin, TxId};
 use outside::NoMemory;
 use std::alloc::Global;
 use std::collections::HashSet;
@@ -163,7 +163,7 @@ fn bridge(
     ensures adds { OnOk result (Adds (Crosses (bag.contains nat_eq gone.now) inner.old.pairs parent child) list.old.items
         list.new.items) }
 {
-    for above in inner.ancestors(parent) {
+    for above in inner.kin(&[parent], Kin::Ancestors) {
         put_left(list, gone, above, child)?;
     }
     Ok(())

@@ -3,6 +3,7 @@ ghost use Rattle.std.specs.List.{filter};
 ghost use Rattle.lists.specs.Distinct.{AreDistinct};
 ghost use Rattle.fee_rate.specs.Limits.{IsFee};
 ghost use Rattle.graphs.specs.Graphs.{IsAncestor, HasNoCycle};
+ghost use Rattle.graphs.specs.Unions.{IsKin};
 ghost use Rattle.links.specs.Links.{AreAmong, AreInRange, AreLinks, AreSame, Has};
 ghost use Rattle.links.specs.Kept.{coming, names_of};
 ghost use Rattle.links.specs.Pairs.{AreAcross, AreSplit, HasMore};
@@ -17,8 +18,8 @@ use crate::making::{joined, linked, without};
 use crate::maps::{Maps, maps_of, place_of};
 use crate::pairs::each_once;
 use crate::pricing::with_fee;
-use crate::walker::{Walker, walk};
-use graphs::TxId;
+use crate::walker::{Walker, walk, walk_all};
+use graphs::{Kin, TxId};
 use outside::NoMemory;
 use std::alloc::Global;
 use std::marker::Model;
@@ -28,7 +29,7 @@ use std::marker::Model;
 /// Each transaction has a name, a fee in satoshis and a size in virtual bytes. A dependency is a pair (parent, child).
 ///
 /// A call that makes links fails only where there is no memory. No other call takes memory: the room for walks is taken when the
-/// links are made, so the three calls that walk take `&mut self`.
+/// links are made, so the two calls that walk take `&mut self`.
 #[derive(Drop)]
 pub struct Links {
     txs: Vec<(TxId, i64, u64)>,
@@ -201,34 +202,16 @@ impl Links {
         has_place(self.walker.found.as_slice(), above)
     }
 
-    /// The ancestors of a name, itself among them. Takes no memory; the walk is linear in the ancestors and their pairs.
-    pub fn ancestors(&mut self, id: TxId) -> LinkWalk<'_>
-        requires { Has self.old id }
+    /// The ancestors, or the descendants, of these names, each once, the names themselves among them. A name may be listed twice. Takes no
+    /// memory; the walk is linear in the names, in what it finds and in the pairs of that.
+    pub fn kin(&mut self, ids: &[TxId], kin: Kin) -> LinkWalk<'_>
+        requires { (id : ℕ) → Contains ids.now id → Has self.old id }
         ensures* same { sem 𝓛 (Rests the_row self.entry (λ new. new ≡ self.old)) }
-        ensures exact { (a : ℕ) → Contains (coming result) a ↔ IsAncestor self.old.pairs a id }
+        ensures exact { (a : ℕ) → Contains (coming result) a ↔ ((id : ℕ) × Contains ids.now id × IsKin kin self.old.pairs a id) }
         ensures once { AreDistinct (coming result) }
     {
         let _pairs = &self.pairs;
-        let place = place_of(&self.maps.places, id);
-        walk(&mut self.walker, &self.maps.up, place);
-        list_names(
-            &mut self.listed,
-            self.txs.as_slice(),
-            self.walker.found.as_slice(),
-        );
-        LinkWalk::new(self.listed.as_slice())
-    }
-
-    /// The descendants of a name, itself among them. Takes no memory; the walk is linear in the descendants and their pairs.
-    pub fn descendants(&mut self, id: TxId) -> LinkWalk<'_>
-        requires { Has self.old id }
-        ensures* same { sem 𝓛 (Rests the_row self.entry (λ new. new ≡ self.old)) }
-        ensures exact { (d : ℕ) → Contains (coming result) d ↔ IsAncestor self.old.pairs id d }
-        ensures once { AreDistinct (coming result) }
-    {
-        let _pairs = &self.pairs;
-        let place = place_of(&self.maps.places, id);
-        walk(&mut self.walker, &self.maps.down, place);
+        walk_all(&mut self.walker, &self.maps, ids, kin);
         list_names(
             &mut self.listed,
             self.txs.as_slice(),

@@ -2,11 +2,11 @@ ghost use Rattle.std.specs.Prelude.{◌≡◌, ◌<◌, length, map, nat_eq, Som
 ghost use Rattle.std.specs.HashMap as hash;
 ghost use Rattle.lists.specs.Distinct.{AreDistinct};
 ghost use Rattle.links.specs.Links.{AreAmong};
-ghost use Rattle.links.specs.Kept.{AreMaps, names_of};
+ghost use Rattle.links.specs.Kept.{AreMaps, names_of, ways_to};
 ghost use Rattle.links.specs.Places.{AreSteps, ArePlaces, Finds, FindsEnds};
 
 use crate::ways::{Ways, turned_steps, ways_of};
-use graphs::TxId;
+use graphs::{Kin, TxId};
 use outside::NoMemory;
 use std::alloc::Global;
 use std::collections::HashMap;
@@ -22,6 +22,18 @@ pub(crate) struct Maps {
     pub(crate) up: Ways,
     /// The steps from parents to their children.
     pub(crate) down: Ways,
+}
+
+impl Maps {
+    /// The steps that lead to ancestors, or to descendants.
+    pub(crate) fn ways_to(&self, kin: Kin) -> &Ways
+        ensures { result.now ≡ ways_to kin self.now }
+    {
+        match kin {
+            Kin::Ancestors => &self.up,
+            Kin::Descendants => &self.down,
+        }
+    }
 }
 
 /// What walks look up for these transactions and pairs.

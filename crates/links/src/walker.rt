@@ -1,8 +1,14 @@
-ghost use Rattle.std.specs.Prelude.{◌≡◌, ◌<◌, ◌≤◌, ℕ, length, Contains, IfOk};
+ghost use Rattle.std.specs.Prelude.{◌≡◌, ◌<◌, ◌≤◌, ℕ, length, nat_eq, Contains, Some, IfOk};
+ghost use Rattle.std.specs.HashMap as hash;
+ghost use Rattle.links.specs.Kept.{ways_to};
+ghost use Rattle.links.specs.Places.{IsPlaceOf};
+ghost use Rattle.links.specs.Places as look_up;
 ghost use Rattle.links.specs.Ways.{AreWays};
-ghost use Rattle.links.specs.Walkers.{IsReady, IsWalking, Finds, FindsAll};
+ghost use Rattle.links.specs.Walkers.{IsReady, IsWalking, Finds, FindsAll, FindsFrom};
 
+use crate::maps::{Maps, place_of};
 use crate::ways::Ways;
+use graphs::{Kin, TxId};
 use outside::NoMemory;
 use std::alloc::Global;
 
@@ -37,13 +43,41 @@ pub(crate) fn walk(walker: &mut Walker, ways: &Ways, from: usize)
 {
     walker.found.clear();
     reach(walker, from);
+    spread(walker, ways);
+    unmark(walker);
+}
+
+/// Finds the places of names and of their ancestors, or of their descendants, each once. A name may be listed twice. Takes no memory.
+pub(crate) fn walk_all(walker: &mut Walker, maps: &Maps, ids: &[TxId], kin: Kin)
+    requires ids { (id : ℕ) → Contains ids.now id → look_up.Finds (hash.get nat_eq maps.now.places) id }
+    requires places { (id place : ℕ) → hash.get nat_eq maps.now.places id ≡ Some place → place < length walker.old.marks.items }
+    requires ways { AreWays (length walker.old.marks.items) (ways_to kin maps.now) }
+    requires ready { IsReady (length walker.old.marks.items) walker.old }
+    ensures ready { IsReady (length walker.old.marks.items) walker.new }
+    ensures within { (place : ℕ) → Contains walker.new.found.items place → place < length walker.old.marks.items }
+    ensures found { FindsFrom (ways_to kin maps.now).steps.items (IsPlaceOf (hash.get nat_eq maps.now.places) ids.now) walker.new.found.items }
+{
+    walker.found.clear();
+    for id in ids {
+        reach(walker, place_of(&maps.places, *id));
+    }
+    spread(walker, maps.ways_to(kin));
+    unmark(walker);
+}
+
+/// Finds all places that steps lead to from those that were found, each once. Takes no memory.
+fn spread(walker: &mut Walker, ways: &Ways)
+    requires ways { AreWays (length walker.old.marks.items) ways.now }
+    requires walking { IsWalking (length walker.old.marks.items) walker.old }
+    ensures walking { IsWalking (length walker.old.marks.items) walker.new }
+    ensures found { FindsFrom ways.now.steps.items (Contains walker.old.found.items) walker.new.found.items }
+{
     let mut done = 0;
     while done < walker.found.len() {
         let place = walker.found[done];
         look_around(walker, ways, place);
         done += 1;
     }
-    unmark(walker);
 }
 
 /// Finds the places that steps from a place lead to. Takes no memory.

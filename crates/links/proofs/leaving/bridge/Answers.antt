@@ -1,16 +1,18 @@
 use Rattle.std.proofs.Common.{◌≡◌, ◌↔◌, ℕ, false, nat_eq, List, [], ◌∷◌, ◌++◌, append_assoc, append-nil, Contains, sym, ap, ◌∙◌, subst}
 use Rattle.std.specs.HashSet as bag
 use Rattle.graphs.specs.Graphs.{IsAncestor}
+use Rattle.graphs.specs.declared.names.Kin.TheVariants.{Ancestors}
 use Rattle.lists.proofs.Entries.{none_in_empty}
 use Rattle.links.specs.declared.link_walk.LinkWalk.{LinkWalk}
 use Rattle.links.specs.Kept.{coming}
 use Rattle.links.proofs.Bridging.{adds_none, bridge_more, bridge_all}
+use Rattle.links.proofs.Walking.{kin_of_one}
 use Rattle.links.proofs.leaving.bridge.Goals as goal
 
 pub loop-above-init : goal.loop-above-init
 loop-above-init c = record {
   all = λ a. subst (λ (it : LinkWalk). Contains (coming it) a ↔ IsAncestor c.args.inner.now.pairs a c.args.parent)
-      (sym c.into_iter-above-iterator.ensures.into_iter_gives) (c.ancestors.ensures.exact a);
+      (sym c.into_iter-above-iterator.ensures.into_iter_gives) (kin_of_one Ancestors c.args.inner.now.pairs c.args.parent (coming c.kin.result) c.kin.ensures.exact a);
   adds = adds_none (λ a b. Contains {X = ℕ} [] a × (b ≡ c.args.child) × (bag.contains nat_eq c.args.gone.now a ≡ false)) c.args.list.now.items
       (λ a b p. none_in_empty a p.0);
 }
