@@ -7,6 +7,7 @@ mod Parts
 mod Whole
 mod Joined
 mod Takes
+mod Kins
 mod Standing
 mod Rising
 mod Cuts

@@ -51,7 +51,7 @@ module _ (n : ℕ) (names : List ℕ) (g : Closure) (kept : IsNamed n names g) w
       lists
 
   -- a name of a place of p's ancestors is one by names
-  chosen_above : (p : ℕ) (chosen : set.FinSet nat_cmp) → p < length names → chosen ≡ ancestors_of g p → (id : ℕ)
+  pub chosen_above : (p : ℕ) (chosen : set.FinSet nat_cmp) → p < length names → chosen ≡ ancestors_of g p → (id : ℕ)
       → IsChosen names chosen id ↔ (is_ancestor (named names g) id (slice_index names p) ≡ true)
   chosen_above p chosen low is id = (
     λ at. subst (λ x. is_ancestor (named names g) x (slice_index names p) ≡ true) at.3
@@ -75,23 +75,29 @@ module _ (n : ℕ) (names : List ℕ) (g : Closure) (kept : IsNamed n names g) w
       let both = names_chosen n names chosen (above_within p chosen is) bound a in
       (λ here. (chosen_above p chosen low is a).0 (both.0 here), λ up. both.1 ((chosen_above p chosen low is a).1 up))
 
+  -- likewise of p's descendants
+  pub chosen_below : (p : ℕ) (chosen : set.FinSet nat_cmp) → p < length names → chosen ≡ descendants_of g p → (id : ℕ)
+      → IsChosen names chosen id ↔ (is_ancestor (named names g) (slice_index names p) id ≡ true)
+  chosen_below p chosen low is id = (
+    λ at. subst (λ x. is_ancestor (named names g) (slice_index names p) x ≡ true) at.3
+        (named-ancestor names g kept.once p at.0 low at.1
+        ∙ (and_parts (is_member g at.0) (is_ancestor g p at.0) (sym (ap (λ s. set.contains s at.0) is ∙ contains-descendants_of g p at.0) ∙ at.2)).1),
+    λ down.
+        let at = ancestor-stands names g kept.once (slice_index names p) id down in
+        let same : at.0 ≡ p = one_place names at.0 p 0 kept.once at.2 low at.4 in
+        let above : is_ancestor g p at.1 ≡ true = subst (λ q. is_ancestor g q at.1 ≡ true) same at.6 in (
+          at.1,
+          at.3,
+          ap (λ s. set.contains s at.1) is ∙ contains-descendants_of g p at.1
+              ∙ and_from (is_member g at.1) (is_ancestor g p at.1) (place_member n names g kept at.1 at.3) above,
+          at.5,
+        ),
+  )
+
   pub below_listed : (p : ℕ) (chosen : set.FinSet nat_cmp) (ids : List ℕ) → p < length names → chosen ≡ descendants_of g p
       → Lists (IsChosen names chosen) ids → Lists (λ id. is_ancestor (named names g) (slice_index names p) id ≡ true) ids
   below_listed p chosen ids low is lists = Lists-for (IsChosen names chosen) (λ id. is_ancestor (named names g) (slice_index names p) id ≡ true) ids
-      (λ id at. subst (λ x. is_ancestor (named names g) (slice_index names p) x ≡ true) at.3
-      (named-ancestor names g kept.once p at.0 low at.1
-      ∙ (and_parts (is_member g at.0) (is_ancestor g p at.0) (sym (ap (λ s. set.contains s at.0) is ∙ contains-descendants_of g p at.0) ∙ at.2)).1))
-      (λ id down.
-      let at = ancestor-stands names g kept.once (slice_index names p) id down in
-      let same : at.0 ≡ p = one_place names at.0 p 0 kept.once at.2 low at.4 in
-      let above : is_ancestor g p at.1 ≡ true = subst (λ q. is_ancestor g q at.1 ≡ true) same at.6 in (
-        at.1,
-        at.3,
-        ap (λ s. set.contains s at.1) is ∙ contains-descendants_of g p at.1
-            ∙ and_from (is_member g at.1) (is_ancestor g p at.1) (place_member n names g kept at.1 at.3) above,
-        at.5,
-      ))
-      lists
+      (λ id at. (chosen_below p chosen low is id).0 at) (λ id down. (chosen_below p chosen low is id).1 down) lists
 
   -- the sizes so far with that of the next place
   pub sizes_more : (p total size : ℕ) → p < length names → size ≡ (rate_of g p).size → total ≡ sum_by (λ id. (rate_of (named names g) id).size) (take p names)

@@ -1,5 +1,5 @@
 -- Lists of the names of places.
-use Rattle.std.proofs.Common.{◌≡◌, ℕ, zero, suc, ◌+◌, ◌-◌, ◌<◌, ◌≤◌, Bool, true, false, nat_eq, List, [], ◌∷◌, ◌++◌, map, length, get_or, slice_index, Contains, inl, inr, ◌⊎◌, ◌↔◌, refl, sym, ap, ◌∙◌, subst, arith, ne_eqb, append-nil, length-append}
+use Rattle.std.proofs.Common.{◌≡◌, ℕ, ◌+◌, ◌-◌, ◌<◌, ◌≤◌, nat_eq, List, [], ◌∷◌, ◌++◌, map, length, get_or, slice_index, Contains, inl, inr, ◌↔◌, sym, ap, ◌∙◌, subst, arith, ne_eqb, append-nil, append_assoc, length-append}
 use Rattle.std.proofs.lemmas.Bool.{cases_order}
 use Rattle.std.proofs.lemmas.List.{get_or_default, length-map, map_push}
 use Rattle.std.proofs.lemmas.List.Elements.{Contains-get_or}
@@ -18,6 +18,7 @@ use Rattle.lists.specs.Rising.{IsRising}
 use Rattle.bitset.specs.Places.{places, IsWithin}
 use Rattle.bitset.specs.Sets.{IsRising-places, Contains-places, places-Contains, places-here}
 use Rattle.graphs.specs.Graphs.{Lists}
+use Rattle.graphs.specs.Unions.{PutsBehind}
 use Rattle.cluster.specs.Changes.{IsChosen}
 
 once_distinct : (xs : List ℕ) → AreDistinct xs → IsDistinct nat_eq xs
@@ -41,15 +42,14 @@ module _ (n : ℕ) (names : List ℕ) (chosen : set.FinSet nat_cmp) (within : Is
         (Contains-map (slice_index names) (places n chosen) at.0 (Contains-places n chosen at.0 (bound at.0 at.2) at.2)),
   )
 
-  pub chosen_listed : IsWithin n chosen → AreDistinct names → (ids sorted : List ℕ) → ids ≡ map (slice_index names) (places n chosen)
-      → IsPermutation ids sorted → IsNonDecreasing sorted → Lists (IsChosen names chosen) sorted
-  chosen_listed bound once ids sorted is moved rising = record {
-    rising = IsStrictlyIncreasing-from_distinct sorted rising
-        (IsDistinct-IsPermutation nat_eq nat_eq_equiv.symm ids sorted moved (subst (IsDistinct nat_eq) (sym is) (once_distinct _ (chosen_once once))));
-    exact = λ id. (
-      λ here. (names_chosen bound id).0 (subst (λ xs. Contains xs id) is (Contains-permutation sorted ids id (IsPermutation-sym ids sorted moved) here)),
-      λ at. Contains-permutation ids sorted id moved (subst (λ xs. Contains xs id) (sym is) ((names_chosen bound id).1 at)),
-    );
+  -- the names of the places of a set, behind a list
+  pub chosen_put : IsWithin n chosen → AreDistinct names → (before ids : List ℕ) → ids ≡ before ++ map (slice_index names) (places n chosen)
+      → PutsBehind (IsChosen names chosen) before ids
+  chosen_put bound once before ids is = record {
+    more = map (slice_index names) (places n chosen);
+    behind = is;
+    once = chosen_once once;
+    exact = names_chosen bound;
   }
 
   -- the next place of a walk over the set
@@ -74,22 +74,37 @@ pub chosen_few : (n : ℕ) (names : List ℕ) (chosen : set.FinSet nat_cmp) → 
 chosen_few n names chosen within = once_few (places n chosen) (length names) (IsRising-places n chosen) (place_within n names chosen within)
 
 -- one more name was pushed, and there was room for it
-pub room_left : (n : ℕ) (names : List ℕ) (chosen : set.FinSet nat_cmp) (ys ws zs : List ℕ) (p : ℕ) (ids : List ℕ) (room total : ℕ)
+pub room_left : (n : ℕ) (names : List ℕ) (chosen : set.FinSet nat_cmp) (ys ws zs : List ℕ) (p : ℕ) (before ids : List ℕ) (room free : ℕ)
     → IsWithin (length names) chosen → ys ++ ws ≡ places n chosen → ws ≡ p ∷ zs
-    → ids ≡ map (slice_index names) ys → length ids + room ≡ total → length names ≤ total → 0 < room
-room_left n names chosen ys ws zs p ids room total within split is copied same enough =
+    → ids ≡ before ++ map (slice_index names) ys → length ids + room ≡ length before + free → length names ≤ free → 0 < room
+room_left n names chosen ys ws zs p before ids room free within split is copied same enough =
     let few : length (places n chosen) ≤ length names = chosen_few n names chosen within in
     let parts : length (places n chosen) ≡ length ys + length (p ∷ zs) = ap length (sym split ∙ ap (λ xs. ys ++ xs) is) ∙ length-append ys (p ∷ zs) in
-    let held : length ids ≡ length ys = ap length copied ∙ length-map ys (slice_index names) in
+    let held : length ids ≡ length before + length (map (slice_index names) ys) = ap length copied ∙ length-append before (map (slice_index names) ys) in
+    let named : length (map (slice_index names) ys) ≡ length ys = length-map ys (slice_index names) in
     omega arith
 
-pub copied_more : (names ys ids : List ℕ) (p x : ℕ) → ids ≡ map (slice_index names) ys
-    → x ≡ slice_index names p → ids ++ x ∷ [] ≡ map (slice_index names) (ys ++ p ∷ [])
-copied_more names ys ids p x copied is = ap (λ xs. xs ++ x ∷ []) copied
-    ∙ ap (λ y. map (slice_index names) ys ++ y ∷ []) is ∙ sym (map_push (slice_index names) ys p)
+pub copied_more : (names before ys ids : List ℕ) (p : ℕ) → ids ≡ before ++ map (slice_index names) ys
+    → ids ++ slice_index names p ∷ [] ≡ before ++ map (slice_index names) (ys ++ p ∷ [])
+copied_more names before ys ids p copied = ap (λ xs. xs ++ slice_index names p ∷ []) copied
+    ∙ append_assoc before (map (slice_index names) ys) (slice_index names p ∷ []) ∙ ap (λ xs. before ++ xs) (sym (map_push (slice_index names) ys p))
+
+-- what was put into an empty list, and sorted
+pub put_listed : (P : ℕ → Type 0) (before ids sorted : List ℕ) → before ≡ [] → PutsBehind P before ids
+    → IsPermutation ids sorted → IsNonDecreasing sorted → Lists P sorted
+put_listed P before ids sorted none puts moved rising =
+    let is : ids ≡ puts.more = puts.behind ∙ ap (λ xs. xs ++ puts.more) none in
+    record {
+      rising = IsStrictlyIncreasing-from_distinct sorted rising
+          (IsDistinct-IsPermutation nat_eq nat_eq_equiv.symm ids sorted moved (subst (IsDistinct nat_eq) (sym is) (once_distinct puts.more puts.once)));
+      exact = λ id. (
+        λ here. (puts.exact id).0 (subst (λ xs. Contains xs id) is (Contains-permutation sorted ids id (IsPermutation-sym ids sorted moved) here)),
+        λ holds. Contains-permutation ids sorted id moved (subst (λ xs. Contains xs id) (sym is) ((puts.exact id).1 holds)),
+      );
+    }
 
 pub split_more : (ys ws zs all : List ℕ) (p : ℕ) → ys ++ ws ≡ all → ws ≡ p ∷ zs → (ys ++ p ∷ []) ++ zs ≡ all
-split_more ys ws zs all p split is = Rattle.std.proofs.Common.append_assoc ys (p ∷ []) zs ∙ ap (λ xs. ys ++ xs) (sym is) ∙ split
+split_more ys ws zs all p split is = append_assoc ys (p ∷ []) zs ∙ ap (λ xs. ys ++ xs) (sym is) ∙ split
 
 pub split_all : (ys ws all : List ℕ) → ys ++ ws ≡ all → ws ≡ [] → ys ≡ all
 split_all ys ws all split is = sym (append-nil ys) ∙ ap (λ xs. ys ++ xs) (sym is) ∙ split

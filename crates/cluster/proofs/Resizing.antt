@@ -1,5 +1,5 @@
 -- A cluster that is kept in sets of other words is the same.
-use Rattle.std.proofs.Common.{◌≡◌, ℕ, ◌*◌, ◌<◌, ◌≤◌, true, List, length, refl, sym, ◌∙◌, arith, ltb-true}
+use Rattle.std.proofs.Common.{◌≡◌, ℕ, ◌<◌, ◌≤◌, List, length, sym, ◌∙◌, arith, ltb-true}
 use Rattle.graphs.specs.declared.names.Flow.{Flow}
 use Rattle.graphs.specs.Closures.{Closure, members_of}
 use Rattle.graphs.proofs.Members.{contains-members_of}

@@ -2,6 +2,7 @@ pub mod Clusters
 pub mod Named
 pub mod Changes
 pub mod Covers
+pub mod Kins
 pub mod Guesses
 pub mod Steps
 pub mod Kept

@@ -3,6 +3,7 @@ ghost use Rattle.fee_rate.specs.Limits.{IsFee, IsRate};
 ghost use Rattle.fee_rate.specs.declared.limits.TheConstants.{MAX_SIZE, MAX_TOTAL};
 ghost use Rattle.graphs.specs.Closures.{is_ancestor, rate_of, AddsPair, SetsFee, IsCover};
 ghost use Rattle.graphs.specs.Graphs.{Lists};
+ghost use Rattle.graphs.specs.Unions.{IsKinOfSome, PutsBehind};
 ghost use Rattle.graphs.specs.Certificates.{Part};
 ghost use Rattle.linearize.specs.Graphs.{sum_from, HasRates, IsComponent};
 ghost use Rattle.cluster.specs.Clusters.{IsCluster, AreApart};
@@ -14,15 +15,16 @@ ghost use Rattle.cluster.specs.Steps.{GrowsWithin, most_steps, most_steps_of};
 use crate::ancestors::Ancestors;
 use crate::covers::Covers;
 use crate::guess::{guess_fee, guess_joined, guess_linked, moved_part};
+use crate::kin::kin_places;
 use crate::list::ClusterList;
 use crate::making::{certified, copied, part};
 use crate::order::{Order, between, copied_order, end_before, rate_in};
-use crate::places::{both_names, list_chosen, place_of, take_out};
+use crate::places::{add_chosen, both_names, list_chosen, place_of, take_out};
 use crate::work::Work;
 use bitset::Bits;
 use dep_graph::DepGraph;
 use fee_rate::FeeRate;
-use graphs::{Flow, IdBuf, TxId};
+use graphs::{Flow, IdBuf, Kin, TxId};
 use outside::NoMemory;
 use smallvec::SmallVec;
 use std::alloc::Global;
@@ -459,5 +461,18 @@ impl<const W: usize> Cluster<W> {
         let _order = &self.order;
         let place = place_of(self.names.as_slice(), id);
         list_chosen(self.names.as_slice(), &self.dep.descendants(place), out);
+    }
+
+    /// Puts behind `out` the ancestors, or the descendants, of names of this cluster, each once; the names themselves are among
+    /// them. Takes no memory.
+    pub fn add_kin(&self, ids: &[TxId], kin: Kin, out: &mut IdBuf)
+        requires ids { (id : ℕ) → Contains ids.now id → Contains self.now.names id }
+        requires room { length self.now.names ≤ out.old.room }
+        ensures adds { PutsBehind (IsKinOfSome kin self.now.graph ids.now) out.old.ids out.new.ids }
+        ensures room { length out.new.ids + out.new.room ≡ length out.old.ids + out.old.room }
+    {
+        let _order = &self.order;
+        let names = self.names.as_slice();
+        add_chosen(names, &kin_places(&self.dep, names, ids, kin), out);
     }
 }

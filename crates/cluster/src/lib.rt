@@ -24,6 +24,7 @@ mod ancestors;
 mod cluster;
 mod covers;
 mod guess;
+mod kin;
 mod laws;
 mod list;
 mod making;

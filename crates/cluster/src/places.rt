@@ -3,6 +3,7 @@ ghost use Rattle.std.specs.FinSet as set;
 ghost use Rattle.lists.specs.Distinct.{AreDistinct};
 ghost use Rattle.bitset.specs.Places.{IsWithin, places};
 ghost use Rattle.graphs.specs.Graphs.{Lists};
+ghost use Rattle.graphs.specs.Unions.{PutsBehind};
 ghost use Rattle.cluster.specs.Changes.{IsChosen};
 
 use bitset::Bits;
@@ -71,6 +72,19 @@ pub(crate) fn both_names(
     Ok(names)
 }
 
+/// Puts the names of some places behind `out`, by rising place.
+pub(crate) fn add_chosen<const W: usize>(names: &[TxId], chosen: &Bits<W>, out: &mut IdBuf)
+    requires within { IsWithin (length names.now) chosen.now }
+    requires once { AreDistinct names.now }
+    requires room { length names.now ≤ out.old.room }
+    ensures adds { PutsBehind (IsChosen names.now chosen.now) out.old.ids out.new.ids }
+    ensures room { length out.new.ids + out.new.room ≡ length out.old.ids + out.old.room }
+{
+    for place in chosen.iter() {
+        out.push(names[place]);
+    }
+}
+
 /// Leaves the names of some places in `out`, in rising order.
 pub(crate) fn list_chosen<const W: usize>(names: &[TxId], chosen: &Bits<W>, out: &mut IdBuf)
     requires within { IsWithin (length names.now) chosen.now }
@@ -80,8 +94,6 @@ pub(crate) fn list_chosen<const W: usize>(names: &[TxId], chosen: &Bits<W>, out:
     ensures room { length out.new.ids + out.new.room ≡ length out.old.ids + out.old.room }
 {
     out.clear();
-    for place in chosen.iter() {
-        out.push(names[place]);
-    }
+    add_chosen(names, chosen, out);
     out.sort();
 }
