@@ -17,6 +17,7 @@ use crate::entries::{Edge, Lists, Tx};
 use certificate::is_graph;
 use fee_rate::{is_fee, is_size};
 use graph_model::TxId;
+use graphs::Kin;
 use links::Links;
 use outside::NoMemory;
 use std::alloc::Global;
@@ -154,7 +155,7 @@ fn stands_alone(links: &mut Links, edges: &[Edge], edge: Edge) -> bool
     ensures alone { MatchBool result (StandsAlone edges.now edge) (StandsAlone edges.now edge → ⊥) }
     ensures same { links.new ≡ links.old }
 {
-    for above in links.ancestors(edge.0) {
+    for above in links.kin(&[edge.0], Kin::Ancestors) {
         if leads_past(edges, above, edge) {
             return false;
         }

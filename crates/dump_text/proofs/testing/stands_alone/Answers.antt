@@ -1,19 +1,23 @@
 use Rattle.std.proofs.Common.{◌≡◌, ◌↔◌, ℕ, sym, subst}
 use Rattle.std.specs.Prelude.{Contains}
 use Rattle.graphs.specs.Graphs.{IsAncestor}
+use Rattle.graphs.specs.declared.names.Kin.TheVariants.{Ancestors}
 use Rattle.links.specs.Kept.{coming}
+use Rattle.links.specs.Links.{Has}
 use Rattle.links.specs.declared.link_walk.LinkWalk.{LinkWalk}
-use Rattle.lists.proofs.Entries.{none_in_empty}
+use Rattle.links.proofs.Walking.{kin_of_one}
+use Rattle.lists.proofs.Entries.{Contains-one, none_in_empty}
 use Rattle.dump_text.proofs.Covering.{above_of, above_to, all_more, all_seen, comes, seen_more}
 use Rattle.dump_text.proofs.testing.stands_alone.Goals as goal
 
-pub ancestors-requires : goal.ancestors-requires
-ancestors-requires c = (c.requires.links.ends c.args.edge.0 c.args.edge.1 c.requires.edge).0
+pub kin-requires : goal.kin-requires
+kin-requires c id here =
+    subst (Has c.args.links.now) (Contains-one c.args.edge.0 id here) (c.requires.links.ends c.args.edge.0 c.args.edge.1 c.requires.edge).0
 
 pub loop-above-init : goal.loop-above-init
 loop-above-init c = record {
   all = λ a. subst (λ (it : LinkWalk). Contains (coming it) a ↔ IsAncestor c.args.links.now.pairs a c.args.edge.0)
-      (sym c.into_iter-above-iterator.ensures.into_iter_gives) (c.ancestors.ensures.exact a);
+      (sym c.into_iter-above-iterator.ensures.into_iter_gives) (kin_of_one Ancestors c.args.links.now.pairs c.args.edge.0 (coming c.kin.result) c.kin.ensures.exact a);
   seen = λ a here. absurd (none_in_empty a here);
 }
 
