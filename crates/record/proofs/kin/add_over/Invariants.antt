@@ -7,6 +7,6 @@ use Rattle.record.proofs.kin.add_over.Given as goal
 
 abbrev pub invariant-loop-id : goal.invariant-loop-id
 invariant-loop-id l = record {
-  way : IsPartway (λ a. (id : ℕ) × Contains l.ids.now id × IsKin l.kin l.fn.links.pairs a id) l.yielded (coming l.id-iterator) l.fn.out.ids l.out.ids
+  way : IsPartway (λ a. (id : ℕ) × Contains l.fn.ids id × IsKin l.fn.kin l.fn.links.pairs a id) l.yielded (coming l.id-iterator) l.fn.out.ids l.out.ids
       l.fn.out.room l.out.room;
 }

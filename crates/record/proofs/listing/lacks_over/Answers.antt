@@ -1,8 +1,10 @@
 -- One ancestor more is looked at.
 use Rattle.std.proofs.Common.{rules, ◌≡◌, ◌↔◌, false, true, true≢false, Contains, refl, sym, ◌∙◌, subst}
 use Rattle.graphs.specs.Graphs.{IsAncestor}
+use Rattle.graphs.specs.declared.names.Kin.TheVariants.{Ancestors}
 use Rattle.links.specs.Kept.{coming}
 use Rattle.links.specs.declared.link_walk.LinkWalk.{LinkWalk}
+use Rattle.links.proofs.Walking.{kin_of_one}
 use Rattle.lists.proofs.Entries.{none_in_empty}
 use Rattle.record.proofs.Listed.{comes, all_more, listed_more, none_lacks}
 use Rattle.record.proofs.listing.lacks_over.Goals as goal
@@ -10,7 +12,8 @@ use Rattle.record.proofs.listing.lacks_over.Goals as goal
 pub loop-above-init : goal.loop-above-init
 loop-above-init g c = record {
   all = λ a. subst (λ (it : LinkWalk). Contains (coming it) a ↔ IsAncestor c.args.links.now.pairs a c.args.id)
-      (sym c.into_iter-above-iterator.ensures.into_iter_gives) (c.ancestors.ensures.exact a);
+      (sym c.into_iter-above-iterator.ensures.into_iter_gives)
+      (kin_of_one Ancestors c.args.links.now.pairs c.args.id (coming c.kin.result) c.kin.ensures.exact a);
   listed = λ a here. absurd (none_in_empty a here);
 }
 

@@ -5,9 +5,9 @@ use Rattle.levels.proofs.shelves.Shelves.add_all.Given as goal
 
 abbrev pub invariant-loop-left : goal.invariant-loop-left
 invariant-loop-left g l = record {
-  way : IsAdding l.kin l.level l.self l.ids.now l.left.now l.out.ids l.out.room;
+  way : IsAdding l.fn.kin l.fn.level l.fn.self l.fn.ids l.left l.out.ids l.out.room;
   room : length l.out.ids + l.out.room ≡ l.fn.out.room;
 }
 
 abbrev pub decreases-loop-left : goal.decreases-loop-left
-decreases-loop-left g l = length l.left.now
+decreases-loop-left g l = length l.left

@@ -6,6 +6,6 @@ use Rattle.levels.proofs.shelves.Shelves.run_length.Given as goal
 
 abbrev pub invariant-loop-at : goal.invariant-loop-at
 invariant-loop-at g l = record {
-  within : l.at ≤ length l.ids.now;
-  same : All (λ id. finmap.get (numbers_at l.level l.self.now) id ≡ l.number) (take l.at l.ids.now);
+  within : l.at ≤ length l.fn.ids;
+  same : All (λ id. finmap.get (numbers_at l.fn.level l.fn.self) id ≡ l.fn.number) (take l.at l.fn.ids);
 }
