@@ -4,6 +4,7 @@ ghost use Rattle.fee_rate.specs.declared.limits.TheConstants.{MAX_SIZE, MAX_TOTA
 ghost use Rattle.bitset.specs.Places.{IsWithin};
 ghost use Rattle.graphs.specs.Closures.{is_ancestor, members_of, rate_of, AddsPair, SetsFee, IsCover};
 ghost use Rattle.graphs.specs.Graphs.{Lists};
+ghost use Rattle.graphs.specs.Unions.{IsKinOfSome, PutsBehind};
 ghost use Rattle.graphs.specs.Certificates.{Part};
 ghost use Rattle.linearize.specs.Graphs.{sum_from, HasRates, IsComponent};
 ghost use Rattle.cluster.specs.Clusters.{IsCluster, AreApart};
@@ -21,7 +22,7 @@ use crate::work::Work;
 use cluster::{Cluster, PartRef};
 use dep_graph::DepGraph;
 use fee_rate::FeeRate;
-use graphs::{IdBuf, TxId};
+use graphs::{IdBuf, Kin, TxId};
 use outside::NoMemory;
 use std::alloc::Global;
 use std::marker::Model;
@@ -412,6 +413,20 @@ impl<const W: usize> Component<W> {
         match &self.kept {
             Width::Narrow(cluster) => cluster.list_descendants(id, out),
             Width::Wide(wide) => wide.cluster.list_descendants(id, out),
+        }
+    }
+
+    /// Puts behind `out` the ancestors, or the descendants, of names of this cluster, each once; the names themselves are among
+    /// them. Takes no memory.
+    pub fn add_kin(&self, ids: &[TxId], kin: Kin, out: &mut IdBuf)
+        requires ids { (id : ℕ) → Contains ids.now id → Contains self.now.names id }
+        requires room { length self.now.names ≤ out.old.room }
+        ensures adds { PutsBehind (IsKinOfSome kin self.now.graph ids.now) out.old.ids out.new.ids }
+        ensures room { length out.new.ids + out.new.room ≡ length out.old.ids + out.old.room }
+    {
+        match &self.kept {
+            Width::Narrow(cluster) => cluster.add_kin(ids, kin, out),
+            Width::Wide(wide) => wide.cluster.add_kin(ids, kin, out),
         }
     }
 
