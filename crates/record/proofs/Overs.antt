@@ -1,9 +1,8 @@
 -- The first of the components of links that is over the limits, by the first name of which it is.
 use Rattle.std.proofs.Common.{◌≡◌, ◌↔◌, ℕ, suc, zero, ◌-◌, ◌<◌, false, List, [], ◌∷◌, ◌++◌, length, get_or, Contains, Some, inl, inr, ◌⊎◌, refl, sym, ap, ◌∙◌, subst, arith, append_assoc, length-append}
 use Rattle.std.specs.Prelude.{slice_get, sum_by}
-use Rattle.std.specs.List.{AllPairs}
 use Rattle.std.proofs.lemmas.Bool.{cases_lt, cases_eq}
-use Rattle.std.proofs.lemmas.List.{get_or_default, get_or_append_left, get_or-append_right}
+use Rattle.std.proofs.lemmas.List.{get_or_append_left, get_or-append_right}
 use Rattle.std.proofs.lemmas.List.Elements.{Contains-get_or}
 use Rattle.std.proofs.lemmas.Option.{none-some, same_Some, slice_get-get_or, slice_get_cases}
 use Rattle.arithmetic.proofs.Sums.{sum_by_along}
@@ -11,7 +10,6 @@ use Rattle.lists.specs.Distinct.{AreDistinct}
 use Rattle.lists.proofs.Distinct.{distinct_within}
 use Rattle.lists.proofs.Entries.{first_of, rest_of, Contains-cases, Contains-splits, none_in_empty}
 use Rattle.lists.proofs.Told.{told_number}
-use Rattle.graphs.specs.Closures.{Closure, is_member, rate_of}
 use Rattle.graphs.specs.Graphs.{Trail, AreConnected}
 use Rattle.fee_rate.specs.declared.rates.FeeRate.{FeeRate}
 use Rattle.graph_model.specs.declared.names.Limits.{Limits}
@@ -20,8 +18,6 @@ use Rattle.graph_model.specs.declared.names.Refusal.TheVariants.{ClusterSize}
 use Rattle.graph_model.specs.Limits.{Bounds, AreOver, bounds_of}
 use Rattle.graph_model.specs.Refusals.{IsFirst, ToldOver}
 use Rattle.links.specs.Links.{Links, AreLinks, Has}
-use Rattle.links.specs.Kept.{names_of}
-use Rattle.links.specs.Closing.{closure}
 use Rattle.links.specs.Laws.{FallsInto}
 use Rattle.links.specs.Parts.{AreComponentsOf, StandsBefore}
 use Rattle.links.proofs.Changing.{has_member}

@@ -1,5 +1,5 @@
 -- One name more is put behind the list, where there is room.
-use Rattle.std.proofs.Common.{◌≡◌, ◌↔◌, ℕ, List, [], ◌∷◌, ◌++◌, length, Contains, append-nil, refl, sym, ap, subst, ◌∙◌, arith}
+use Rattle.std.proofs.Common.{◌↔◌, ℕ, [], ◌∷◌, ◌++◌, Contains, append-nil, sym, subst, arith}
 use Rattle.std.proofs.lemmas.List.{length-map}
 use Rattle.graphs.specs.Rooms.{Room}
 use Rattle.graphs.specs.Unions.{IsKin}

@@ -1,4 +1,4 @@
-use Rattle.std.proofs.Common.{◌≡◌, ◌<◌, ◌≤◌, ℕ, inl, inr, sym, ap, ◌∙◌, subst, arith, length}
+use Rattle.std.proofs.Common.{◌≡◌, ◌<◌, inl, inr, sym, ap, subst, arith, length}
 use Rattle.graphs.specs.Certificates.{Txs}
 use Rattle.graph_model.specs.declared.names.Refusal.TheVariants.{ClusterSize}
 use Rattle.links.specs.Links.{AreInRange}

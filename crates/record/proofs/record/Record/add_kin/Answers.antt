@@ -1,5 +1,5 @@
 -- What is asked of what is kept is what is asked of the record.
-use Rattle.std.proofs.Common.{◌≡◌, ℕ, ◌*◌, ◌≤◌, length, Contains, arith, subst, sym}
+use Rattle.std.proofs.Common.{◌*◌, ◌≤◌, length, Contains, arith, subst, sym}
 use Rattle.graphs.specs.Rooms.{Room}
 use Rattle.graphs.specs.Unions.{IsKinOfSome, PutsBehind}
 use Rattle.cluster.specs.Clusters.{Cluster}
@@ -23,11 +23,11 @@ add_over-requires g c =
 pub add_kin-requires : goal.add_kin-requires
 add_kin-requires g c =
     let same = sym (within_is c.self.inside.kept c.in-Within.component c.args.self.now c.in-Within.is c.self.view_is) in (
-      ?,
-      record {
-        ids = λ id here. subst (λ (s : Cluster). Contains s.names id) same (c.requires.ids id here);
-        room = subst (λ (s : Cluster). length s.names ≤ c.args.out.now.room) same c.requires.room;
-      },
+      omega arith,
+      (
+        λ id here. subst (λ (s : Cluster). Contains s.names id) same (c.requires.ids id here),
+        subst (λ (s : Cluster). length s.names ≤ c.args.out.now.room) same c.requires.room,
+      ),
     )
 
 pub returns-clause-adds : goal.returns-clause-adds

@@ -1,5 +1,5 @@
 -- The records of the components, none of which is over the limits where none may be.
-use Rattle.std.proofs.Common.{ℕ, List, [], lit<, length, refl, sym, subst}
+use Rattle.std.proofs.Common.{List, lit<, length, refl, sym, subst}
 use Rattle.std.specs.Prelude.{All, Contains}
 use Rattle.links.specs.Links.{Links, AreLinks}
 use Rattle.record.specs.Leaving.{IsOneComponent}
