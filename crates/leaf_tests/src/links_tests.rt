@@ -1,8 +1,8 @@
-ghost use Rattle.std.specs.Prelude.{◌≡◌, ◌↔◌, ◌∷◌, [], pos, Contains, IsTrue, IfOk};
+ghost use Rattle.std.specs.Prelude.{◌≡◌, ◌↔◌, ◌∷◌, ℕ, [], pos, Contains, IsTrue, IfOk};
 ghost use Rattle.links.specs.Kept.{names_of};
 ghost use Rattle.links.specs.Links.{Has};
 
-use graphs::TxId;
+use graphs::{Kin, TxId};
 use links::Links;
 use outside::NoMemory;
 use std::alloc::Global;
@@ -75,36 +75,33 @@ fn with_more(rt: &impl Abort, alloc: Global, links: &Links, id: TxId) -> Result<
     links.with_fee(alloc, id, 20)
 }
 
-// The ancestors of a name, in rising order.
-fn above(
-    rt: &impl Abort,
-    alloc: Global,
-    links: &mut Links,
-    id: TxId,
-) -> Result<Vec<TxId>, NoMemory> {
-    assert!(rt; has(links, id));
-    let mut ids = Vec::new(alloc);
-    for other in links.ancestors(id) {
-        ids.push(other)?;
+// Whether all of these names are among the links'.
+fn has_all(links: &Links, ids: &[TxId]) -> bool
+    ensures { IsTrue result → (id : ℕ) → Contains ids.now id → Has links.now id }
+{
+    for id in ids {
+        if !has(links, *id) {
+            return false;
+        }
     }
-    ids.sort_unstable();
-    Ok(ids)
+    true
 }
 
-// The descendants of a name, in rising order.
-fn below(
+// The ancestors, or the descendants, of these names, in rising order.
+fn kin_of(
     rt: &impl Abort,
     alloc: Global,
     links: &mut Links,
-    id: TxId,
+    ids: &[TxId],
+    kin: Kin,
 ) -> Result<Vec<TxId>, NoMemory> {
-    assert!(rt; has(links, id));
-    let mut ids = Vec::new(alloc);
-    for other in links.descendants(id) {
-        ids.push(other)?;
+    assert!(rt; has_all(links, ids));
+    let mut found = Vec::new(alloc);
+    for other in links.kin(ids, kin) {
+        found.push(other)?;
     }
-    ids.sort_unstable();
-    Ok(ids)
+    found.sort_unstable();
+    Ok(found)
 }
 
 // Three names, each a child of the one before.
@@ -114,13 +111,32 @@ fn chain(rt: &impl Abort, alloc: Global) -> Result<Links, NoMemory> {
     with_child(rt, alloc, &two, 2, 3)
 }
 
+/// Names, which kin of theirs, and these in rising order.
+type Relatives = (&'static [TxId], Kin, &'static [TxId]);
+
+// Below the name 9 stand 1 and 2, below both of these 4, and below 2 alone 5.
+const RELATIVES: [Relatives; 10] = [
+    (&[9], Kin::Ancestors, &[9]),
+    (&[4], Kin::Ancestors, &[1, 2, 4, 9]),
+    (&[2], Kin::Descendants, &[2, 4, 5]),
+    (&[4, 5], Kin::Ancestors, &[1, 2, 4, 5, 9]),
+    (&[1, 2], Kin::Descendants, &[1, 2, 4, 5]),
+    (&[5, 2], Kin::Ancestors, &[2, 5, 9]),
+    (&[1, 9], Kin::Descendants, &[1, 2, 4, 5, 9]),
+    (&[5, 5], Kin::Ancestors, &[2, 5, 9]),
+    (&[1, 1], Kin::Descendants, &[1, 4]),
+    (&[], Kin::Ancestors, &[]),
+];
+
 #[test]
-fn walks_give_ancestors_and_descendants(rt: HostRuntime) -> Result<(), Fail> {
+fn walks_give_the_kin_of_names_each_once(rt: HostRuntime) -> Result<(), Fail> {
     let alloc = rt.alloc();
-    let mut links = chain(&rt, alloc)?;
-    assert!(rt; above(&rt, alloc, &mut links, 3)?.as_slice() == [1, 2, 3].as_slice());
-    assert!(rt; above(&rt, alloc, &mut links, 1)?.as_slice() == [1].as_slice());
-    assert!(rt; below(&rt, alloc, &mut links, 2)?.as_slice() == [2, 3].as_slice());
+    let mut tree = grown(&rt, alloc, &[(9, 1), (9, 2), (1, 4), (2, 5)])?;
+    let mut links = with_pair(&rt, alloc, &mut tree, 2, 4)?;
+    for (ids, kin, names) in &RELATIVES {
+        let found = kin_of(&rt, alloc, &mut links, ids, *kin)?;
+        assert!(rt; found.as_slice() == *names, "{kin:?} of {ids:?}");
+    }
     Ok(())
 }
 
@@ -131,7 +147,9 @@ fn a_name_that_goes_leaves_its_ancestors_to_its_children(rt: HostRuntime) -> Res
     let all = with_pair(&rt, alloc, &mut links, 1, 3)?;
     let mut rest = without_one(&rt, alloc, &all, 2)?;
     assert!(rt; rest.pairs() == [(1, 3)].as_slice());
-    assert!(rt; above(&rt, alloc, &mut rest, 3)?.as_slice() == [1, 3].as_slice());
+    assert!(rt;
+        kin_of(&rt, alloc, &mut rest, &[3], Kin::Ancestors)?.as_slice() == [1, 3].as_slice()
+    );
     Ok(())
 }
 

@@ -11,6 +11,7 @@ ghost use Rattle.reorg.specs.Blocks.{AreNamesOf, ArePairsBy, ArePairsOf, LeadsTo
 
 use crate::making::{put_other, txs_of};
 use graph_model::{Level, TxId};
+use graphs::Kin;
 use links::Links;
 use outside::NoMemory;
 use std::alloc::Global;
@@ -94,7 +95,7 @@ fn put_walked(list: &mut Vec<(TxId, TxId)>, links: &mut Links, id: TxId) -> Resu
     ensures same { links.new ≡ links.old }
     ensures adds { OnOk result (Adds (λ m d. (m ≡ id) × LeadsTo links.old.pairs m d) list.old.items list.new.items) }
 {
-    for d in links.descendants(id) {
+    for d in links.kin(&[id], Kin::Descendants) {
         put_other(list, id, d)?;
     }
     Ok(())

@@ -1,7 +1,6 @@
-use Rattle.std.proofs.Common.{◌≡◌, ◌<◌, ℕ, ℤ, pos, length, map, get_or, refl, sym, ◌∙◌, subst, arith}
-use Rattle.std.specs.Prelude.{Contains}
-use Rattle.std.proofs.lemmas.List.{get_or-map, get_or_default, length-map}
-use Rattle.lists.proofs.Entries.{map-Contains, Contains-map}
+use Rattle.std.proofs.Common.{◌≡◌, ℕ, ℤ, pos, get_or, ◌∙◌, arith}
+use Rattle.std.proofs.lemmas.List.{get_or_default}
+use Rattle.lists.proofs.Entries.{map-Contains}
 use Rattle.leaf_tests.proofs.links_tests.lists.Goals as goal
 
 pub returns : goal.returns

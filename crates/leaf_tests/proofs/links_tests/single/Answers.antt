@@ -1,5 +1,4 @@
-use Rattle.std.proofs.Common.{◌≡◌, ℕ, ℤ, pos, [], ◌∷◌, subst, sym, arith}
-use Rattle.std.specs.Prelude.{Contains}
+use Rattle.std.proofs.Common.{ℕ, ℤ, pos, subst, arith}
 use Rattle.lists.proofs.Entries.{Contains-one, none_in_empty}
 use Rattle.fee_rate.specs.Limits.{IsFee, IsSize}
 use Rattle.leaf_tests.proofs.links_tests.single.Goals as goal

@@ -1,7 +1,9 @@
 use Rattle.std.proofs.Common.{◌≡◌, ◌↔◌, ℕ, List, [], ◌∷◌, ◌++◌, append_assoc, append-nil, Contains, sym, ap, ◌∙◌, subst}
 use Rattle.graphs.specs.Graphs.{IsAncestor}
+use Rattle.graphs.specs.declared.names.Kin.TheVariants.{Descendants}
 use Rattle.links.specs.declared.link_walk.LinkWalk.{LinkWalk}
 use Rattle.links.specs.Kept.{coming}
+use Rattle.links.proofs.Walking.{kin_of_one}
 use Rattle.reorg.specs.Blocks.{LeadsTo}
 use Rattle.reorg.proofs.Pairing.{others_none, others_more, others_all, pushed}
 use Rattle.reorg.proofs.linking.put_walked.Goals as goal
@@ -9,7 +11,7 @@ use Rattle.reorg.proofs.linking.put_walked.Goals as goal
 pub loop-d-init : goal.loop-d-init
 loop-d-init c = record {
   all = λ d. subst (λ (it : LinkWalk). Contains (coming it) d ↔ IsAncestor c.args.links.now.pairs c.args.id d)
-      (sym c.into_iter-d-iterator.ensures.into_iter_gives) (c.descendants.ensures.exact d);
+      (sym c.into_iter-d-iterator.ensures.into_iter_gives) (kin_of_one Descendants c.args.links.now.pairs c.args.id (coming c.kin.result) c.kin.ensures.exact d);
   adds = others_none c.args.id c.args.list.now.items;
 }
 
