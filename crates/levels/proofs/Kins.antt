@@ -1,12 +1,15 @@
 -- The ancestors, or the descendants, of names that lie in several clusters, and which clusters these are.
-use Rattle.std.proofs.Common.{◌≡◌, ◌↔◌, ℕ, zero, suc, ◌+◌, ◌*◌, ◌<◌, ◌≤◌, Bool, true, List, [], ◌∷◌, ◌++◌, length, flat_map, get_or, nat_eq, Contains, Option, None, Some, is_some, inl, inr, refl, sym, ap, ap₂, ◌∙◌, subst, append_assoc, append-nil, length-append, ne_eqb, arith}
+use Rattle.std.proofs.Common.{◌≡◌, ◌↔◌, ℕ, zero, suc, ◌+◌, ◌*◌, ◌<◌, ◌≤◌, Bool, true, List, [], ◌∷◌, ◌++◌, length, flat_map, get_or, slice_index, take, drop, nat_eq, All, Contains, ◌≢◌, Option, None, Some, is_some, inl, inr, refl, sym, ap, ap₂, ◌∙◌, subst, append_assoc, append-nil, length-append, eqb-true, ne_eqb, true≢false, arith}
 use Rattle.std.specs.Prelude.{IfErr, Result, Ok, Err, option_to_list}
+use Rattle.std.specs.Option.{option_eq}
+use Rattle.std.proofs.lemmas.Bool.{cases_lt}
+use Rattle.std.proofs.lemmas.List.{get_or-drop, get_or_default, length-drop, length-take-le, take-append-drop, take_more}
 use Rattle.std.specs.Cmp.{nat_eq_equiv}
 use Rattle.std.specs.FinMap as finmap
 use Rattle.std.specs.List.{IsDistinct}
 use Rattle.std.specs.List.Sorted.{IsPermutation, IsNonDecreasing}
-use Rattle.std.proofs.lemmas.List.Elements.{Contains-append_cases, Contains-append_left, Contains-append_right, Contains-get_or}
-use Rattle.std.proofs.lemmas.List.Sorted.{Contains-permutation, IsPermutation-sym}
+use Rattle.std.proofs.lemmas.List.Elements.{All-contains, All-push, Contains-append_cases, Contains-append_left, Contains-append_right, Contains-get_or}
+use Rattle.std.proofs.lemmas.List.Sorted.{Contains-permutation, IsNonDecreasingBy-drop, IsPermutation-sym}
 use Rattle.std.proofs.lemmas.Map.Keys.{IsDistinct-IsPermutation, IsDistinct-from_apart, IsStrictlyIncreasing-from_distinct}
 use Rattle.std.proofs.lemmas.Option.{none-some, same_Some}
 use Rattle.lists.specs.Distinct.{AreDistinct}
@@ -23,13 +26,18 @@ use Rattle.graphs.specs.declared.names.Kin.TheVariants.{Ancestors, Descendants}
 use Rattle.graphs.specs.declared.names.Level.{Level}
 use Rattle.cluster.specs.Clusters.{Cluster}
 use Rattle.cluster_store.specs.Names.{names_seen}
-use Rattle.levels.specs.Shelves.{HaveFew, IsInOrder, Shelf, numbers_at, seen_at, view_of}
-use Rattle.levels.specs.Unions.{AreGrouped, IsFirstRun, LieIn, LieUnder, names_under}
+use Rattle.levels.specs.Shelves.{HaveFew, IsInOrder, Shelf, numbers_at, seen_at, stored_at, view_of}
+use Rattle.levels.specs.Unions.{AreGrouped, IsFirstRun, LieIn, LieUnder, key_in, key_of, names_under}
 use Rattle.levels.specs.Views.{IsClusterOf, IsIndexed, Numbers, graph_of}
 use Rattle.levels.proofs.Finds.{indexed_at}
 use Rattle.levels.proofs.Found.{cluster_of}
 use Rattle.levels.proofs.Graphs.{AboveIn, in_above, in_live, live_in, names_of_above}
 use Rattle.levels.proofs.Members.{all_names, in_option, of_seen}
+use Rattle.levels.proofs.Seen.{seen_is_stored}
+
+pub none_left : (xs : List ℕ) → length xs ≡ 0 → xs ≡ []
+none_left [] e = refl
+none_left (x ∷ xs) e = absurd (omega (arith, e))
 
 -- ---- names that stand side by side, cut between two clusters
 
@@ -71,6 +79,56 @@ module _ (numbers : Numbers) (ids done left run rest : List ℕ) (o : Option ℕ
 
   pub run_left : (b : ℕ) → Contains run b → Contains left b
   run_left b here = subst (λ (xs : List ℕ). Contains xs b) (sym first.split) (Contains-append_left run rest b here)
+
+-- ---- the first run
+
+same_option : (a b : Option ℕ) → option_eq nat_eq a b ≡ true → a ≡ b
+same_option None None e = refl
+same_option (Some x) (Some y) e = ap Some (eqb-true x y e)
+same_option None (Some y) e = absurd (true≢false (sym e))
+same_option (Some x) None e = absurd (true≢false (sym e))
+
+key_same : (a b : Option ℕ) → key_of a ≡ key_of b → a ≡ b
+key_same None None e = refl
+key_same (Some x) (Some y) e = ap Some (let same : x + 1 ≡ y + 1 = e in omega arith)
+key_same None (Some y) e = absurd (let same : 0 ≡ y + 1 = e in omega arith)
+key_same (Some x) None e = absurd (let same : x + 1 ≡ 0 = e in omega arith)
+
+-- one name more has the number
+pub run_more : (numbers : Numbers) (ids : List ℕ) (at : ℕ) (o found : Option ℕ) → at < length ids
+    → found ≡ finmap.get numbers (slice_index ids at) → option_eq nat_eq found o ≡ true
+    → All (λ id. finmap.get numbers id ≡ o) (take at ids) → All (λ id. finmap.get numbers id ≡ o) (take (at + 1) ids)
+run_more numbers ids at o found low is same all =
+    subst (All (λ id. finmap.get numbers id ≡ o)) (sym (take_more ids at 0 low))
+    (All-push (λ id. finmap.get numbers id ≡ o) (take at ids) (slice_index ids at) all (sym is ∙ same_option found o same))
+
+-- names of the number up to one of another, where all are grouped
+pub first_is : (numbers : Numbers) (ids : List ℕ) (r : ℕ) (o : Option ℕ) → AreGrouped numbers ids → 0 < length ids
+    → o ≡ finmap.get numbers (slice_index ids 0) → r ≤ length ids → All (λ id. finmap.get numbers id ≡ o) (take r ids)
+    → (r < length ids → finmap.get numbers (slice_index ids r) ≢ o) → IsFirstRun numbers ids (take r ids) (drop r ids) o
+first_is numbers ids r o grouped filled first within all last =
+    let one : 0 < r = elim (cases_lt 0 r) [
+      | inl some ↦ some
+      | inr none ↦
+          let zero : r ≡ 0 = omega (arith, none) in
+          absurd (last (omega (arith, zero, filled)) (ap (λ (k : ℕ). finmap.get numbers (slice_index ids k)) zero ∙ sym first))
+    ] in
+    record {
+      split = sym (take-append-drop r ids);
+      some = omega (arith, length-take-le r ids within, one);
+      run_has = λ id here. All-contains (λ id. finmap.get numbers id ≡ o) (take r ids) id all here;
+      rest_hasnt = λ id (p, low, at) same.
+          let long = length-drop r ids in
+          let there : get_or ids (r + p) id ≡ id = sym (get_or-drop r ids p id) ∙ at in
+          let rises = grouped r (r + p) id (omega arith) (omega (arith, low, long)) in
+          let begins = grouped 0 r id (omega arith) (omega (arith, low, long)) in
+          let end : key_in numbers (get_or ids (r + p) id) ≡ key_of o = ap (key_in numbers) there ∙ ap key_of same in
+          let begin : key_in numbers (get_or ids 0 id) ≡ key_of o = ap (key_in numbers) (get_or_default ids 0 id 0 filled) ∙ ap key_of (sym first) in
+          last (omega (arith, low, long))
+          (ap (λ (x : ℕ). finmap.get numbers x) (sym (get_or_default ids r id 0 (omega (arith, low, long))))
+          ∙ key_same (finmap.get numbers (get_or ids r id)) o (omega (arith, rises, begins, end, begin)));
+      grouped = IsNonDecreasingBy-drop (key_in numbers) r ids grouped;
+    }
 
 -- a run of itself and what is behind it
 pub run_again : (numbers : Numbers) (left run rest : List ℕ) (o : Option ℕ) → IsFirstRun numbers left run rest o
@@ -174,7 +232,7 @@ module _ (level : Level) (shelf : Shelf) (left run rest ns : List ℕ) (under : 
             (under.exact k).1 (id, subst (λ (xs : List ℕ). Contains xs id) (sym first.split) (Contains-append_right run rest id behind), has),
       );
     };
-    long = refl;
+    long = omega arith;
   }
   under_less (Some n) first =
       let one = Contains-get_or run 0 0 first.some in
@@ -228,6 +286,27 @@ module _ (w : ℕ) (level : Level) (shelf : Shelf) (order : IsInOrder w shelf) w
   -- a name is one of the cluster of its number, and of no other
   pub held : (id n : ℕ) → finds id ≡ Some n → (c : Cluster) × (seen_at level shelf.store.clusters n ≡ Some c) × Contains c.names id
   held id n is = let at = indexed.stands id n is in (at.cluster, at.there, at.here)
+
+  -- and so with the names of a run
+  pub run_held : (run rest : List ℕ) (o : Option ℕ) (n : ℕ) → IsFirstRun (numbers_at level shelf) (run ++ rest) run rest o → o ≡ Some n
+      → (c : Cluster) × (seen_at level shelf.store.clusters n ≡ Some c) × (stored_at shelf.store.clusters n ≡ Some c)
+      × ((id : ℕ) → Contains run id → Contains c.names id)
+  run_held run rest o n first is =
+      let one = held (get_or run 0 0) n (first.run_has (get_or run 0 0) (Contains-get_or run 0 0 first.some) ∙ is) in (
+        one.0,
+        one.1,
+        seen_is_stored level shelf.store.clusters n one.0 one.1,
+        λ id here.
+            let its = held id n (first.run_has id here ∙ is) in
+            subst (λ (c : Cluster). Contains c.names id) (same_Some its.0 one.0 (sym its.1 ∙ one.1)) its.2,
+      )
+
+  -- a number's names are those of its cluster
+  pub one_long : (o : Option ℕ) (n : ℕ) (c : Cluster) → o ≡ Some n → seen_at level shelf.store.clusters n ≡ Some c
+      → length (names_under level shelf (option_to_list o)) ≡ length c.names
+  one_long o n c is there =
+      ap (λ (p : Option ℕ). length (names_under level shelf (option_to_list p))) is
+      ∙ ap length (append-nil (own n)) ∙ ap (λ (p : Option Cluster). length (names_seen p)) there
 
   own_of : (id n : ℕ) → finds id ≡ Some n → Contains (own n) id
   own_of id n is =
@@ -412,7 +491,7 @@ module _ (level : Level) (shelf : Shelf) (ids left run rest : List ℕ) (o : Opt
 
   names_next : (p : Option ℕ) → length (names_under level shelf (option_to_list p ++ way.numbers))
       ≡ length (names_under level shelf (option_to_list p)) + length (names_under level shelf way.numbers)
-  names_next None = refl
+  names_next None = omega arith
   names_next (Some n) =
       omega (arith, length-append (names_seen (seen_at level shelf.store.clusters n)) (names_under level shelf way.numbers),
       ap length (append-nil (names_seen (seen_at level shelf.store.clusters n))))

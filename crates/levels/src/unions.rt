@@ -1,7 +1,7 @@
 //! The components that names of a level lie in, and the ancestors or descendants of names together. Nothing takes memory.
 //!
 //! The names are put side by side by the numbers of their clusters first, so that each cluster is looked at once.
-ghost use Rattle.std.specs.Prelude.{◌≡◌, ◌≢◌, ℕ, ◌+◌, ◌<◌, ◌≤◌, [], Some, List, length, take, slice_index, option_to_list, All, Contains, IfErr, IfOk};
+ghost use Rattle.std.specs.Prelude.{◌≡◌, ◌≢◌, ℕ, ◌+◌, ◌<◌, ◌≤◌, ◌++◌, [], Some, List, length, take, slice_index, option_to_list, All, Contains, IfErr, IfOk};
 ghost use Rattle.std.specs.FinMap as finmap;
 ghost use Rattle.std.specs.List.Sorted.{IsPermutation};
 ghost use Rattle.graphs.specs.Graphs.{Lists};
@@ -71,7 +71,12 @@ impl<const W: usize> Shelves<W> {
         ensures same { IsPermutation ids.old ids.new }
         ensures grouped { AreGrouped (numbers_at level self.now) ids.new }
     {
-        ids.sort_unstable_by_key(|id| self.key(level, *id));
+        ids.sort_unstable_by_key(|id: &TxId| -> u128
+            ensures key { result ≡ key_in (numbers_at level self.entry.now) id.now }
+            ensures same { self.exit ≡ self.entry }
+        {
+            self.key(level, *id)
+        });
     }
 
     // Names of one cluster have one key.
@@ -137,8 +142,8 @@ impl<const W: usize> Shelves<W> {
     fn sizes(&self, level: Level, run: Run<'_>) -> (usize, usize)
         requires order { IsInOrder W self.now }
         requires run { IsFirstRun (numbers_at level self.now) (run.ids.now ++ run.rest.now) run.ids.now run.rest.now run.number }
-        ensures one { result.0 ≡ length (option_to_list run.number) }
-        ensures many { result.1 ≡ length (names_under level self.now (option_to_list run.number)) }
+        ensures one { result.0 ≡ length (option_to_list run.entry.number) }
+        ensures many { result.1 ≡ length (names_under level self.now (option_to_list run.entry.number)) }
     {
         match run.number {
             Some(number) => (1, self.at(number).names().len()),
@@ -170,8 +175,8 @@ impl<const W: usize> Shelves<W> {
         requires order { IsInOrder W self.old }
         requires run { IsFirstRun (numbers_at level self.old) (run.ids.now ++ run.rest.now) run.ids.now run.rest.now run.number }
         requires room { length (names_under level self.old (option_to_list run.number)) ≤ out.old.room }
-        ensures adds { PutsBehind (IsKinOfSome kin (one_of level self.old).graph run.ids.now) out.old.ids out.new.ids }
-        ensures few { length out.new.ids ≤ length out.old.ids + length (names_under level self.old (option_to_list run.number)) }
+        ensures adds { PutsBehind (IsKinOfSome kin (one_of level self.old).graph run.entry.ids.now) out.old.ids out.new.ids }
+        ensures few { length out.new.ids ≤ length out.old.ids + length (names_under level self.old (option_to_list run.entry.number)) }
         ensures room { length out.new.ids + out.new.room ≡ length out.old.ids + out.old.room }
         ensures same { self.new ≡ self.old }
     {

@@ -1,5 +1,5 @@
 -- The clusters under the numbers are the components.
-use Rattle.std.proofs.Common.{◌≡◌, ℕ, List, length, ◌∙◌, sym, subst}
+use Rattle.std.proofs.Common.{◌≡◌, ℕ, List, length, ◌∙◌, sym, subst, arith}
 use Rattle.cluster.specs.Clusters.{Cluster}
 use Rattle.graphs.specs.Closures.{Closure}
 use Rattle.levels.specs.Unions.{LieIn}
@@ -10,8 +10,11 @@ use Rattle.levels.proofs.levels.Levels.count_clusters.Goals as goal
 
 pub count_clusters-requires : goal.count_clusters-requires
 count_clusters-requires g c = (
+  omega arith,
+  (
   c.self.invariant.order,
   few_kept g.row.W c.self.inside.mains c.self.inside.tops c.self.inside.issued c.self.inside.shelves c.self.inside.rings c.self.invariant,
+  ),
 )
 
 pub returns-clause-count : goal.returns-clause-count

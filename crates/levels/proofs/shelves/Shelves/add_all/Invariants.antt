@@ -6,6 +6,7 @@ use Rattle.levels.proofs.shelves.Shelves.add_all.Given as goal
 abbrev pub invariant-loop-left : goal.invariant-loop-left
 invariant-loop-left g l = record {
   way : IsAdding l.fn.kin l.fn.level l.fn.self l.fn.ids l.left l.out.ids l.out.room;
+  same : l.self ≡ l.fn.self;
   room : length l.out.ids + l.out.room ≡ l.fn.out.room;
 }
 
