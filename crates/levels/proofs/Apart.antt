@@ -21,18 +21,19 @@ module _ {X Y : Type 0} (first mark both : X → Bool) (second : Bool → Bool) 
 
   pub told : (xs : List X) → map (λ (m : Bool × Y). m.1) (filter (λ (m : Bool × Y). second m.0) (map marked (filter first xs))) ≡ map f (filter both xs)
   told [] = refl
-  told (x ∷ xs) = step (first x) (second (mark x)) refl ∙ ap (λ b. map f (cond b (x ∷ filter both xs) (filter both xs))) (sym (is x))
+  told (x ∷ xs) = step (first x) (second (mark x)) refl (told xs) ∙ ap (λ b. map f (cond b (x ∷ filter both xs) (filter both xs))) (sym (is x))
     where
       step : (a b : Bool) → second (mark x) ≡ b
+          → map (λ (m : Bool × Y). m.1) (rest xs) ≡ map f (filter both xs)
           → map (λ (m : Bool × Y). m.1) (filter (λ (m : Bool × Y). second m.0) (map marked (cond a (x ∷ filter first xs) (filter first xs))))
           ≡ map f (cond (a && b) (x ∷ filter both xs) (filter both xs))
-      step true true e = ap (λ c. map (λ (m : Bool × Y). m.1) (cond c (marked x ∷ rest xs) (rest xs))) e ∙ ap (λ (ys : List Y). f x ∷ ys) (told xs)
-      step true false e = ap (λ c. map (λ (m : Bool × Y). m.1) (cond c (marked x ∷ rest xs) (rest xs))) e ∙ told xs
-      step false b e = told xs
+      step true true e same = ap (λ c. map (λ (m : Bool × Y). m.1) (cond c (marked x ∷ rest xs) (rest xs))) e ∙ ap (λ (ys : List Y). f x ∷ ys) same
+      step true false e same = ap (λ c. map (λ (m : Bool × Y). m.1) (cond c (marked x ∷ rest xs) (rest xs))) e ∙ same
+      step false b e same = same
 
 -- ---- the parts of the clusters of a tag
 
-test_at : (Tag → Bool) → Numbered → ℕ × ℕ → Bool
+abbrev test_at : (Tag → Bool) → Numbered → ℕ × ℕ → Bool
 test_at test clusters place = passes test (finmap.get clusters place.0)
 
 shown_parts : (clusters : Numbered) (places : List (ℕ × ℕ)) → map (λ (s : Shown). s.part) (map (shown_at clusters) places) ≡ map (part_at clusters) places
@@ -48,7 +49,7 @@ unmarked mark f [] = refl
 unmarked {X} {Y} mark f (x ∷ xs) = ap (λ (ys : List Y). f x ∷ ys) (unmarked mark f xs)
 
 -- the levels that one tag alone has, and both
-alone_of : Level → Tag
+abbrev alone_of : Level → Tag
 alone_of Main = MainOnly
 alone_of Top = TopOnly
 

@@ -13,6 +13,6 @@ returns g c =
       map (λ (s : Shown). s.part) (shown_only MainOnly store),
       map (λ (s : Shown). s.part) (shown_only TopOnly store),
       are_apart store,
-      c.rates_only.ensures ∙ ap (λ (s : Store). map (λ (t : Shown). t.part.rate) (shown_only MainOnly s)) c.store.ensures ∙ alone_rates MainOnly store,
-      c.rates_only-2.ensures ∙ ap (λ (s : Store). map (λ (t : Shown). t.part.rate) (shown_only TopOnly s)) c.store.ensures ∙ alone_rates TopOnly store,
+      c.rates_only.ensures ∙ ap (λ (s : Store). map (λ (t : Shown). t.part.rate) (shown_only MainOnly s)) c.store-store.ensures ∙ alone_rates MainOnly store,
+      c.rates_only-2.ensures ∙ ap (λ (s : Store). map (λ (t : Shown). t.part.rate) (shown_only TopOnly s)) c.store-store.ensures ∙ alone_rates TopOnly store,
     )
