@@ -1,5 +1,6 @@
 -- The kin of some names of a level, and the components that they lie in, told by a plain graph.
 use Rattle.std.proofs.Common.{◌≡◌, ◌↔◌, ℕ, true, List, [], ◌∷◌, ◌++◌, length, map, flat_map, Contains, refl, sym, ap, ◌∙◌, subst, inl, inr}
+use Rattle.std.specs.Prelude.{IfErr, IfOk, Result, Ok, Err}
 use Rattle.std.proofs.lemmas.List.{length-map}
 use Rattle.lists.specs.Distinct.{AreDistinct}
 use Rattle.lists.proofs.Entries.{Contains-map, map-Contains}
@@ -10,12 +11,14 @@ use Rattle.graphs.specs.declared.names.Kin.{Kin}
 use Rattle.graphs.specs.declared.names.Kin.TheVariants.{Ancestors, Descendants}
 use Rattle.graphs.proofs.ListLemmas.{Lists-for}
 use Rattle.cluster.specs.Clusters.{Cluster}
-use Rattle.levels.specs.Levels.{OneLevel}
+use Rattle.graph_model.specs.States.{State, level_of}
+use Rattle.graphs.specs.declared.names.Level.{Level}
+use Rattle.levels.specs.Levels.{OneLevel, level_at}
 use Rattle.levels.specs.Unions.{LieIn}
-use Rattle.tx_graph.specs.Kept.{IsGraphOf}
+use Rattle.tx_graph.specs.Kept.{IsGraphOf, Kept, StandsFor}
 use Rattle.tx_graph.specs.Unions.{AreTheirComponents, HaveComponentsOf, IsKinIn, LieInComponents}
 use Rattle.tx_graph.proofs.Reading.{above_of}
-use Rattle.tx_graph.proofs.Standing.{connected-linked, told}
+use Rattle.tx_graph.proofs.Standing.{connected-linked, graph_at, told}
 
 same_names : (clusters : List Cluster) → flat_map (λ (ns : List ℕ). ns) (map (λ (c : Cluster). c.names) clusters) ≡ flat_map (λ (c : Cluster). c.names) clusters
 same_names [] = refl
@@ -66,3 +69,21 @@ module _ (level : OneLevel) (graph : Graph) (of : IsGraphOf level graph) where
       → HaveComponentsOf graph ids n
   needs_told ids n (clusters, lie, is) =
       (map (λ (c : Cluster). c.names) clusters, lie_told ids clusters lie, is ∙ sym (ap length (same_names clusters)))
+
+-- ---- in every state
+
+module _ (kept : Kept) (at : Level) where
+  pub unions_in : {E : Type 0} (kin : Kin) (ids out : List ℕ) (r : Result (Unit {0}) E)
+      → IfOk r (λ _. Lists (IsKinOfSome kin (level_at kept.levels at).graph ids) out)
+      → IfOk r (λ _. (state : State) → StandsFor kept state → Lists (IsKinIn kin (level_of state.plain at) ids) out)
+  unions_in kin ids out (Ok u) lists state stands =
+      union_told (level_at kept.levels at) (level_of state.plain at) (graph_at kept state.plain stands.plain at) kin ids out lists
+  unions_in kin ids out (Err e) lists = tt
+
+  pub needs_in : {T : Type 0} (ids : List ℕ) (r : Result T ℕ)
+      → IfErr r (λ needs. (clusters : List Cluster) × LieIn (level_at kept.levels at).graph ids clusters
+      × (needs ≡ length (flat_map (λ (c : Cluster). c.names) clusters)))
+      → IfErr r (λ needs. (state : State) → StandsFor kept state → HaveComponentsOf (level_of state.plain at) ids needs)
+  needs_in ids (Ok x) told = tt
+  needs_in ids (Err n) told state stands =
+      needs_told (level_at kept.levels at) (level_of state.plain at) (graph_at kept state.plain stands.plain at) ids n told
