@@ -76,7 +76,7 @@ module _ (kept : Kept) (at : Level) where
   pub unions_in : {E : Type 0} (kin : Kin) (ids out : List ℕ) (r : Result (Unit {0}) E)
       → IfOk r (λ _. Lists (IsKinOfSome kin (level_at kept.levels at).graph ids) out)
       → IfOk r (λ _. (state : State) → StandsFor kept state → Lists (IsKinIn kin (level_of state.plain at) ids) out)
-  unions_in kin ids out (Ok u) lists state stands =
+  unions_in kin ids out (Ok u) lists = λ state stands.
       union_told (level_at kept.levels at) (level_of state.plain at) (graph_at kept state.plain stands.plain at) kin ids out lists
   unions_in kin ids out (Err e) lists = tt
 
@@ -84,6 +84,6 @@ module _ (kept : Kept) (at : Level) where
       → IfErr r (λ needs. (clusters : List Cluster) × LieIn (level_at kept.levels at).graph ids clusters
       × (needs ≡ length (flat_map (λ (c : Cluster). c.names) clusters)))
       → IfErr r (λ needs. (state : State) → StandsFor kept state → HaveComponentsOf (level_of state.plain at) ids needs)
-  needs_in ids (Ok x) told = tt
-  needs_in ids (Err n) told state stands =
-      needs_told (level_at kept.levels at) (level_of state.plain at) (graph_at kept state.plain stands.plain at) ids n told
+  needs_in ids (Ok x) tells = tt
+  needs_in ids (Err n) tells = λ state stands.
+      needs_told (level_at kept.levels at) (level_of state.plain at) (graph_at kept state.plain stands.plain at) ids n tells

@@ -1,7 +1,7 @@
 //! What Bitcoin Core's `txgraph.h` asks of main's order beside one chunk and two transactions.
-ghost use Rattle.std.specs.Prelude.{◌≡◌, List, cond, MatchResult};
+ghost use Rattle.std.specs.Prelude.{◌≡◌, List, MatchResult};
 ghost use Rattle.std.specs.List.Sorted.{IsPermutation};
-ghost use Rattle.std.specs.Ordering.{Equal, Greater, nat_cmp};
+ghost use Rattle.std.specs.Ordering.{nat_cmp};
 ghost use Rattle.graphs.specs.Certificates.{Part};
 ghost use Rattle.graphs.specs.declared.names.Level.TheVariants.{Main, Top};
 ghost use Rattle.graph_model.specs.Answers.{order_of};
@@ -47,7 +47,15 @@ impl<const W: usize> TxGraph<W> {
         ensures sorted { (state : State) → StandsFor self.now state
             → (pick : List Part) × (pick_of state.picks Main ≡ Some pick) × StandInOrder (order_of pick) ids.new }
     {
-        ids.sort_unstable_by(|a, b| self.compare_in_main(*a, *b));
+        let _levels = &self.levels;
+        ids.sort_unstable_by(|a: &TxId, b: &TxId| -> Ordering
+            requires { IsWithin self.now.levels Main }
+            ensures places { result ≡ nat_cmp (place_in (order_of self.entry.now.levels.main.parts) a.now)
+                (place_in (order_of self.entry.now.levels.main.parts) b.now) }
+            ensures same { self.exit ≡ self.entry }
+        {
+            self.compare_in_main(*a, *b)
+        });
     }
 
     // Which of two transactions stands first in main's order. One that isn't in main stands behind those that are.
@@ -55,11 +63,16 @@ impl<const W: usize> TxGraph<W> {
         requires { IsWithin self.now.levels Main }
         ensures { result ≡ nat_cmp (place_in (order_of self.now.levels.main.parts) a) (place_in (order_of self.now.levels.main.parts) b) }
     {
-        if !self.levels.has(Level::Main, a) {
-            return last(self.levels.has(Level::Main, b));
+        let first = self.levels.has(Level::Main, a);
+        let second = self.levels.has(Level::Main, b);
+        if !second {
+            if first {
+                return Ordering::Less;
+            }
+            return Ordering::Equal;
         }
-        if !self.levels.has(Level::Main, b) {
-            return Ordering::Less;
+        if !first {
+            return Ordering::Greater;
         }
         match self.levels.place(a, b) {
             Place::Before => Ordering::Less,
@@ -87,16 +100,5 @@ impl<const W: usize> TxGraph<W> {
     {
         needs_orders(&self.levels)?;
         Ok(self.levels.alone())
-    }
-}
-
-// Where a transaction that isn't in main stands to another, by whether main has that.
-fn last(has_other: bool) -> Ordering
-    ensures { result ≡ cond has_other Greater Equal }
-{
-    if has_other {
-        Ordering::Greater
-    } else {
-        Ordering::Equal
     }
 }
