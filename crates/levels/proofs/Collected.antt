@@ -1,5 +1,5 @@
 -- The clusters that get a new parent, put together with the transactions that come in.
-use Rattle.std.proofs.Common.{◌≡◌, ℕ, ℤ, suc, zero, ◌+◌, ◌*◌, ◌<◌, ◌≤◌, Bool, true, List, [], ◌∷◌, ◌++◌, length, map, flat_map, get_or, Contains, Option, Some, None, is_some, IsSome, inl, inr, ◌⊎◌, ◌↔◌, refl, sym, ap, ap₂, ◌∙◌, subst, subst₂, arith, length-append, true≢false}
+use Rattle.std.proofs.Common.{◌≡◌, ℕ, ℤ, suc, zero, ◌*◌, ◌≤◌, Bool, true, List, [], ◌∷◌, ◌++◌, length, flat_map, Contains, Option, Some, None, is_some, IsSome, inl, inr, ◌⊎◌, ◌↔◌, refl, sym, ap, ap₂, ◌∙◌, subst, arith, length-append, true≢false}
 use Rattle.std.specs.Prelude.{slice_index}
 use Rattle.std.proofs.lemmas.List.{length-map, map-append}
 use Rattle.std.proofs.lemmas.List.Elements.{Contains-append_left, Contains-append_right, Contains-append_cases}
@@ -7,33 +7,31 @@ use Rattle.std.proofs.lemmas.Option.{none-some, same_Some}
 use Rattle.std.specs.FinMap as finmap
 use Rattle.lists.specs.Distinct.{AreDistinct}
 use Rattle.lists.proofs.Distinct.{distinct_from_places, distinct_joined, places_apart}
-use Rattle.lists.proofs.Entries.{Contains-head, Contains-later, Contains-map, first_of, map-Contains, rest_of}
+use Rattle.lists.proofs.Entries.{Contains-head, Contains-map, first_of, map-Contains, rest_of}
 use Rattle.lists.proofs.Flats.{flat_has, flat_of, flat_once}
 use Rattle.lists.proofs.Keys.{names-within}
 use Rattle.lists.proofs.Told.{told_number}
-use Rattle.fee_rate.specs.Limits.{IsFee, IsSize}
 use Rattle.fee_rate.specs.declared.limits.TheConstants.{MAX_TOTAL}
 use Rattle.graphs.specs.declared.names.Level.TheVariants.{Top}
 use Rattle.graphs.specs.Certificates.{Txs}
-use Rattle.graphs.specs.Closures.{Closure, IsOrder, is_ancestor, is_member, rate_of}
+use Rattle.graphs.specs.Closures.{Closure, IsOrder, is_ancestor, is_member}
 use Rattle.graphs.specs.Graphs.{Walk, IsAncestor, HasNoCycle}
 use Rattle.graphs.proofs.WalkLemmas.{walk_of_pair}
 use Rattle.graph_model.specs.Changes.{ids_of}
 use Rattle.cluster.specs.Clusters.{Cluster}
-use Rattle.links.specs.Links.{Links, AreAmong, AreInRange, AreLinks, Has}
+use Rattle.links.specs.Links.{Links, AreAmong, AreInRange, Has}
 use Rattle.links.specs.Kept.{names_of}
-use Rattle.links.specs.Closing.{closure}
-use Rattle.links.proofs.Changing.{has_above, has_member}
+use Rattle.links.proofs.Changing.{has_above}
 use Rattle.record.specs.Kept.{unordered}
 use Rattle.record.specs.Leaving.{AreLike, bare}
 use Rattle.record.specs.Records.{IsConnected}
-use Rattle.levels.specs.Changes.{AreAt, IsNamed}
+use Rattle.levels.specs.Changes.{IsNamed}
 use Rattle.levels.specs.Gathered.{AreHere, AreMet, IsHere, MayReturn, PutsAll}
-use Rattle.levels.specs.Shelves.{IsInOrder, Shelf, numbers_at, seen_at, view_of}
+use Rattle.levels.specs.Shelves.{IsInOrder, Shelf, view_of}
 use Rattle.levels.specs.Views.{IsClusterOf, View, graph_of}
 use Rattle.levels.proofs.Ends.{got}
 use Rattle.levels.proofs.Found.{cluster_of}
-use Rattle.levels.proofs.Graphs.{above_in, cases_option, in_live, one_cluster, order_of}
+use Rattle.levels.proofs.Graphs.{cases_option, in_live, one_cluster, order_of}
 use Rattle.levels.proofs.Lookups.{found_of, placed_of}
 use Rattle.levels.proofs.Pointing.{one_at}
 

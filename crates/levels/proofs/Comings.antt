@@ -1,5 +1,5 @@
 -- What the links of transactions and clusters that get a new parent say of the graphs that come so.
-use Rattle.std.proofs.Common.{◌≡◌, ◌≢◌, ℕ, ℤ, suc, zero, ◌+◌, ◌*◌, ◌<◌, ◌≤◌, true, List, [], ◌∷◌, ◌++◌, length, map, flat_map, Contains, Some, None, is_some, IsSome, inl, inr, ◌⊎◌, ◌↔◌, refl, sym, ap, ◌∙◌, subst, subst₂, true≢false}
+use Rattle.std.proofs.Common.{◌≡◌, ℕ, ℤ, suc, zero, true, List, [], ◌∷◌, flat_map, Contains, is_some, inl, inr, ◌⊎◌, ◌↔◌, refl, sym, ap, ◌∙◌, subst, true≢false}
 use Rattle.std.proofs.lemmas.Option.{same_Some}
 use Rattle.std.proofs.lemmas.List.Elements.{Contains-append_left, Contains-append_right, Contains-append_cases}
 use Rattle.lists.proofs.Entries.{map-Contains}
@@ -15,17 +15,14 @@ use Rattle.graph_model.specs.Changes.{ids_of}
 use Rattle.graph_model.proofs.BackLemmas.{ancestors_along}
 use Rattle.graph_model.proofs.LevelLemmas.{connects}
 use Rattle.cluster.specs.Clusters.{Cluster}
-use Rattle.links.specs.Links.{Links, AreLinks, Has, graph as graph_of_links}
-use Rattle.links.specs.Kept.{names_of}
+use Rattle.links.specs.Links.{Links, Has, graph as graph_of_links}
 use Rattle.links.specs.Closing.{closure}
-use Rattle.links.proofs.Changing.{has_above, has_member}
+use Rattle.links.proofs.Changing.{has_above}
 use Rattle.links.proofs.Closed.{closes, orders, rates_are}
-use Rattle.record.specs.Kept.{unordered}
-use Rattle.record.specs.Leaving.{bare}
 use Rattle.levels.specs.Changes.{IsNamed}
 use Rattle.levels.specs.Gathered.{Gathers, IsHere, MayReturn}
 use Rattle.levels.specs.Restores.{ComesOf}
-use Rattle.levels.specs.Shelves.{IsInOrder, Shelf, numbers_at, view_of}
+use Rattle.levels.specs.Shelves.{IsInOrder, Shelf, view_of}
 use Rattle.levels.specs.Views.{View, graph_of}
 use Rattle.levels.proofs.Collected.{all_named, apart_old, child_in, cluster_in, inner_in, in_inner, live_old, stands, told_above, told_named, told_of, whole_old}
 use Rattle.levels.proofs.Graphs.{member-number}

@@ -1,5 +1,5 @@
 -- The rings are right again where transactions came into both levels with clusters that went out.
-use Rattle.std.proofs.Common.{◌≡◌, ℕ, ℤ, ◌+◌, ◌*◌, ◌-◌, ◌^◌, ◌≤◌, true, Bool, cond, List, [], ◌∷◌, ◌++◌, length, Contains, Option, None, Some, is_some, IsSome, inl, inr, ◌⊎◌, ◌↔◌, refl, sym, ap, ◌∙◌, subst, subst₂, true≢false, arith, length-append}
+use Rattle.std.proofs.Common.{◌≡◌, ℕ, ℤ, ◌+◌, ◌*◌, ◌-◌, ◌^◌, ◌≤◌, true, List, [], ◌∷◌, ◌++◌, length, Contains, Option, None, Some, is_some, IsSome, inl, inr, ◌⊎◌, ◌↔◌, refl, sym, ap, ◌∙◌, subst, subst₂, true≢false, arith, length-append}
 use Rattle.std.specs.Prelude.{option_map, option_to_list, slice_index}
 use Rattle.std.specs.List.{AllPairs}
 use Rattle.std.specs.FinMap as finmap
@@ -40,8 +40,7 @@ use Rattle.levels.proofs.Comings.{has_name}
 use Rattle.levels.proofs.Shelved.{none_of, one_view}
 use Rattle.levels.proofs.Tallies.{mains_are_tops}
 use Rattle.levels.proofs.Touching.{in_one, same_named}
-use Rattle.levels.proofs.Turning.{changed, news_whole, rebuilt}
-use Rattle.levels.proofs.Turned.{kept_turned}
+use Rattle.levels.proofs.Turning.{news_whole, rebuilt}
 use Rattle.levels.proofs.Unmoved.{top_stays}
 
 -- ---- what came in, without a last one

@@ -1,5 +1,5 @@
 -- The ancestors, or the descendants, of names that lie in several clusters, and which clusters these are.
-use Rattle.std.proofs.Common.{◌≡◌, ◌↔◌, ℕ, zero, suc, ◌+◌, ◌*◌, ◌<◌, ◌≤◌, Bool, true, List, [], ◌∷◌, ◌++◌, length, flat_map, get_or, slice_index, take, drop, nat_eq, All, Contains, ◌≢◌, Option, None, Some, is_some, inl, inr, refl, sym, ap, ap₂, ◌∙◌, subst, append_assoc, append-nil, length-append, eqb-true, ne_eqb, true≢false, arith}
+use Rattle.std.proofs.Common.{◌≡◌, ℕ, ◌+◌, ◌*◌, ◌<◌, ◌≤◌, true, List, [], ◌∷◌, ◌++◌, length, flat_map, get_or, slice_index, take, drop, nat_eq, All, Contains, ◌≢◌, Option, None, Some, is_some, inl, inr, refl, sym, ap, ◌∙◌, subst, append_assoc, append-nil, length-append, eqb-true, ne_eqb, true≢false, arith}
 use Rattle.std.specs.Prelude.{IfErr, Result, Ok, Err, option_to_list}
 use Rattle.std.specs.Option.{option_eq}
 use Rattle.std.proofs.lemmas.Bool.{cases_lt}
@@ -18,7 +18,7 @@ use Rattle.lists.proofs.Entries.{Contains-between, Contains-cases, Contains-head
 use Rattle.lists.proofs.Flats.{flat_has, flat_of, flat_once}
 use Rattle.lists.proofs.Keys.{names-within}
 use Rattle.fee_rate.specs.declared.limits.TheConstants.{MAX_TOTAL}
-use Rattle.graphs.specs.Closures.{Closure, is_ancestor, is_member}
+use Rattle.graphs.specs.Closures.{Closure, is_ancestor}
 use Rattle.graphs.specs.Graphs.{Lists}
 use Rattle.graphs.specs.Unions.{IsKinOfSome, PutsBehind, is_kin}
 use Rattle.graphs.specs.declared.names.Kin.{Kin}
@@ -31,7 +31,7 @@ use Rattle.levels.specs.Unions.{AreGrouped, IsFirstRun, LieIn, LieUnder, key_in,
 use Rattle.levels.specs.Views.{IsClusterOf, IsIndexed, Numbers, graph_of}
 use Rattle.levels.proofs.Finds.{indexed_at}
 use Rattle.levels.proofs.Found.{cluster_of}
-use Rattle.levels.proofs.Graphs.{AboveIn, in_above, in_live, live_in, names_of_above}
+use Rattle.levels.proofs.Graphs.{in_above, in_live, live_in, names_of_above}
 use Rattle.levels.proofs.Members.{all_names, in_option, of_seen}
 use Rattle.levels.proofs.Seen.{seen_is_stored}
 
@@ -236,9 +236,11 @@ module _ (level : Level) (shelf : Shelf) (left run rest ns : List ℕ) (under : 
   }
   under_less (Some n) first =
       let one = Contains-get_or run 0 0 first.some in
-      let here : Contains ns n = (under.exact n).1
-      (get_or run 0 0, subst (λ (xs : List ℕ). Contains xs (get_or run 0 0)) (sym first.split) (Contains-append_left run rest (get_or run 0 0) one),
-      first.run_has (get_or run 0 0) one) in
+      let here : Contains ns n = (under.exact n).1 (
+        get_or run 0 0,
+        subst (λ (xs : List ℕ). Contains xs (get_or run 0 0)) (sym first.split) (Contains-append_left run rest (get_or run 0 0) one),
+        first.run_has (get_or run 0 0) one,
+      ) in
       let cut = Contains-splits ns n here in
       record {
         numbers = cut.0 ++ cut.1;
@@ -267,8 +269,12 @@ one_each at [] some = refl
 one_each at (n ∷ ns) some =
     let rest = one_each at ns (λ m here. some m (Contains-later n m ns here)) in
     let one = some n (Contains-head n ns) in
-    omega (arith, rest, ap (λ (o : Option Cluster). length (option_to_list o)) one.1,
-    length-append (option_to_list (at n)) (flat_map (λ m. option_to_list (at m)) ns))
+    omega (
+      arith,
+      rest,
+      ap (λ (o : Option Cluster). length (option_to_list o)) one.1,
+      length-append (option_to_list (at n)) (flat_map (λ m. option_to_list (at m)) ns),
+    )
 
 module _ (w : ℕ) (level : Level) (shelf : Shelf) (order : IsInOrder w shelf) where
   abbrev finds : ℕ → Option ℕ
@@ -352,16 +358,21 @@ module _ (w : ℕ) (level : Level) (shelf : Shelf) (order : IsInOrder w shelf) w
               let is = in_option (at found.0) c found.2 in
               let (id, listed, has) = (under.exact found.0).0 found.1 in
               let its = held id found.0 has in
-              let inside = subst (λ (d : Cluster). Contains d.names id) (same_Some its.0 c (sym its.1 ∙ is)) its.2 in
-              (id, listed, in_live (64 * w) (view_of level shelf) indexed found.0 id c is inside,
-              cluster_of (64 * w) (view_of level shelf) indexed found.0 c is id inside);
+              let inside = subst (λ (d : Cluster). Contains d.names id) (same_Some its.0 c (sym its.1 ∙ is)) its.2 in (
+                id,
+                listed,
+                in_live (64 * w) (view_of level shelf) indexed found.0 id c is inside,
+                cluster_of (64 * w) (view_of level shelf) indexed found.0 c is id inside,
+              );
           once = subst AreDistinct (sym names) (under_once ns under.once);
           all = λ id listed live.
               let stands = live_in (64 * w) (view_of level shelf) indexed id live in
-              let among = (under.exact stands.0).1 (id, listed, stands.1) in
-              (stands.2.cluster, flat_has (λ n. option_to_list (at n)) ns stands.0 stands.2.cluster among
-              (subst (λ (o : Option Cluster). Contains (option_to_list o) stands.2.cluster) (sym stands.2.there) (Contains-head stands.2.cluster [])),
-              stands.2.here);
+              let among = (under.exact stands.0).1 (id, listed, stands.1) in (
+                stands.2.cluster,
+                flat_has (λ n. option_to_list (at n)) ns stands.0 stands.2.cluster among
+                    (subst (λ (o : Option Cluster). Contains (option_to_list o) stands.2.cluster) (sym stands.2.there) (Contains-head stands.2.cluster [])),
+                stands.2.here,
+              );
         },
         one_each at ns (λ n here. let found = (under.exact n).0 here in let its = held found.0 n found.2 in (its.0, its.1)),
         ap length names,
@@ -493,8 +504,11 @@ module _ (level : Level) (shelf : Shelf) (ids left run rest : List ℕ) (o : Opt
       ≡ length (names_under level shelf (option_to_list p)) + length (names_under level shelf way.numbers)
   names_next None = omega arith
   names_next (Some n) =
-      omega (arith, length-append (names_seen (seen_at level shelf.store.clusters n)) (names_under level shelf way.numbers),
-      ap length (append-nil (names_seen (seen_at level shelf.store.clusters n))))
+      omega (
+        arith,
+        length-append (names_seen (seen_at level shelf.store.clusters n)) (names_under level shelf way.numbers),
+        ap length (append-nil (names_seen (seen_at level shelf.store.clusters n))),
+      )
 
   pub measured_next : (one many : ℕ) → one ≡ length (option_to_list o) → many ≡ length (names_under level shelf (option_to_list o))
       → IsMeasured level shelf ids rest (clusters + one) (names + many)

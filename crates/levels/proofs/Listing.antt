@@ -1,9 +1,8 @@
 -- Transactions, pairs and clusters that are looked at one after the other.
-use Rattle.std.proofs.Common.{◌≡◌, ℕ, ℤ, zero, suc, ◌+◌, ◌<◌, ◌≤◌, Bool, true, false, cond, nat_eq, eq-eqb, eqb-true, List, [], ◌∷◌, ◌++◌, take, drop, length, map, flat_map, get_or, Contains, Option, Some, None, is_some, IsSome, inl, inr, ◌⊎◌, ◌↔◌, refl, sym, ap, ap₂, ◌∙◌, subst, subst₂, true≢false, arith, append_assoc, length-append}
+use Rattle.std.proofs.Common.{◌≡◌, ℕ, ℤ, zero, suc, ◌+◌, ◌<◌, ◌≤◌, Bool, true, false, cond, nat_eq, eq-eqb, eqb-true, List, [], ◌∷◌, ◌++◌, take, drop, length, flat_map, get_or, Contains, Option, Some, None, is_some, IsSome, inl, inr, ◌⊎◌, ◌↔◌, refl, sym, ap, ap₂, ◌∙◌, subst, subst₂, true≢false, arith, append_assoc, length-append}
 use Rattle.std.specs.Prelude.{option_map, slice_index, MatchResult, Result, Ok, Err}
 use Rattle.std.specs.Result.{IsErrAnd}
 use Rattle.std.specs.FinMap as finmap
-use Rattle.std.specs.FinSet as set
 use Rattle.std.proofs.lemmas.Grind.{flat_map-append}
 use Rattle.std.proofs.lemmas.List.{append-nil, map-append, length-map, length-take, take-append-drop, take_more}
 use Rattle.std.proofs.lemmas.List.Elements.{Contains-get_or, Contains-push, Contains-push_cases, Contains-append_left}
@@ -18,13 +17,13 @@ use Rattle.cluster.specs.Clusters.{Cluster}
 use Rattle.links.specs.Links.{Links, AreLinks}
 use Rattle.name_book.specs.Calls.{Gains}
 use Rattle.record.specs.Kept.{unordered}
-use Rattle.record.specs.Leaving.{AreLike, bare}
+use Rattle.record.specs.Leaving.{bare}
 use Rattle.record.specs.Restoring.{PutsBehind}
 use Rattle.cluster_store.specs.Stores.{Stored}
 use Rattle.cluster_store.proofs.Listed.{at_joined}
 use Rattle.cluster_store.proofs.Seen.{seen_is}
 use Rattle.levels.specs.Changes.{AreAt}
-use Rattle.levels.specs.Gathered.{AreHere, AreMet, GainsAll, HasMore, HasNames, IsHere, KeepsPair, ListsSet, PutsAll}
+use Rattle.levels.specs.Gathered.{AreHere, GainsAll, HasMore, HasNames, KeepsPair, ListsSet, PutsAll}
 use Rattle.levels.specs.Rings.{Ringed}
 use Rattle.levels.proofs.Ends.{got}
 use Rattle.levels.proofs.Graphs.{cases_option}

@@ -1,5 +1,5 @@
 -- Of the graphs that come so, which components are over the limits, and what the orders of their components take.
-use Rattle.std.proofs.Common.{◌≡◌, ℕ, ℤ, suc, zero, ◌+◌, ◌*◌, ◌<◌, ◌≤◌, true, List, [], ◌∷◌, ◌++◌, length, map, flat_map, Contains, inl, inr, ◌⊎◌, ◌↔◌, refl, sym, ap, ap₂, ◌∙◌, subst, subst₂, arith}
+use Rattle.std.proofs.Common.{◌≡◌, ℕ, ℤ, ◌+◌, ◌<◌, ◌≤◌, List, [], ◌∷◌, ◌++◌, length, flat_map, Contains, inl, inr, ◌⊎◌, ◌↔◌, refl, sym, ap, ap₂, ◌∙◌, subst, arith}
 use Rattle.std.specs.Prelude.{sum_by}
 use Rattle.std.proofs.lemmas.List.{map-append}
 use Rattle.std.proofs.lemmas.List.Elements.{Contains-append_left, Contains-append_right}
@@ -7,18 +7,17 @@ use Rattle.arithmetic.proofs.Sums.{sum_by_along}
 use Rattle.lists.proofs.Entries.{Contains-cases, Contains-head, Contains-later, Contains-splits, first_of, none_in_empty, rest_of}
 use Rattle.lists.proofs.Flats.{flat_has}
 use Rattle.lists.proofs.Walks.{Walk-map}
-use Rattle.fee_rate.specs.declared.rates.FeeRate.{FeeRate}
 use Rattle.graphs.specs.declared.names.Level.TheVariants.{Top}
 use Rattle.graphs.specs.Certificates.{Txs}
-use Rattle.graphs.specs.Closures.{Closure, AreLinked, IsRelated, is_ancestor, is_member, rate_of}
-use Rattle.graphs.specs.Graphs.{Graph, AreConnected, Lists}
+use Rattle.graphs.specs.Closures.{Closure, IsRelated}
+use Rattle.graphs.specs.Graphs.{Graph, AreConnected}
 use Rattle.graphs.proofs.WalkLemmas.{AreConnected-sym, AreConnected-trans}
 use Rattle.graph_model.specs.declared.names.Limits.{Limits}
 use Rattle.graph_model.specs.declared.names.Refusal.{Refusal}
 use Rattle.graph_model.specs.declared.names.Refusal.TheVariants.{ClusterSize, Count}
 use Rattle.graph_model.specs.Limits.{Bounds, bounds_of}
 use Rattle.graph_model.specs.Changes.{ids_of}
-use Rattle.graph_model.specs.Refusals.{IsFirst, ToldOver}
+use Rattle.graph_model.specs.Refusals.{ToldOver}
 use Rattle.graph_model.proofs.FirstLemmas.{first_in}
 use Rattle.cluster.specs.Changes.{AreComponents, AreNearLeft, IsLeft}
 use Rattle.links.specs.Links.{Links, Has}

@@ -1,10 +1,8 @@
 -- Transactions that come into the top level with dependencies. What is said of the graph that is made is said of plain graphs: of each one
 -- that comes so of a plain graph whose closure the level keeps.
-use Rattle.std.specs.Prelude.{◌≡◌, ◌≢◌, ◌⊎◌, ◌↔◌, ℕ, ℤ, ◌+◌, ◌-◌, ◌^◌, ◌≤◌, true, false, None, List, length, map, flat_map, sum_by, Contains}
-use Rattle.std.specs.FinMap as finmap
+use Rattle.std.specs.Prelude.{◌≡◌, ◌⊎◌, ◌↔◌, ℕ, ℤ, ◌+◌, ◌-◌, ◌^◌, ◌≤◌, true, false, None, List, length, flat_map, sum_by, Contains}
 use Rattle.lists.specs.Distinct.{AreDistinct}
 use Rattle.fee_rate.specs.declared.limits.TheConstants.{MAX_TOTAL}
-use Rattle.graphs.specs.declared.names.Level.TheVariants.{Top}
 use Rattle.graphs.specs.Certificates.{Txs}
 use Rattle.graphs.specs.Closing.{IsClosureOf}
 use Rattle.graphs.specs.Closures.{Closure, is_ancestor, is_member, rate_of}

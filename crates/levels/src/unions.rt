@@ -71,12 +71,12 @@ impl<const W: usize> Shelves<W> {
         ensures same { IsPermutation ids.old ids.new }
         ensures grouped { AreGrouped (numbers_at level self.now) ids.new }
     {
-        ids.sort_unstable_by_key(|id: &TxId| -> u128
-            ensures key { result ≡ key_in (numbers_at level self.entry.now) id.now }
-            ensures same { self.exit ≡ self.entry }
-        {
-            self.key(level, *id)
-        });
+        ids.sort_unstable_by_key(
+            |id: &TxId| -> u128
+                ensures key { result ≡ key_in (numbers_at level self.entry.now) id.now }
+                ensures same { self.exit ≡ self.entry }
+            { self.key(level, *id) },
+        );
     }
 
     // Names of one cluster have one key.

@@ -1,10 +1,10 @@
 -- Transactions that come back into main of a graph: what that is refused for, and what it leads to.
-use Rattle.std.proofs.Common.{◌≡◌, ◌≢◌, ℕ, ℤ, ◌+◌, ◌^◌, ◌<◌, ◌≤◌, true, false, List, [], ◌∷◌, length, map, sym, refl, ap, subst, ◌∙◌, inl, inr, ◌⊎◌, Option, None, Some, is_some, true≢false, arith}
+use Rattle.std.proofs.Common.{◌≡◌, ◌≢◌, ℕ, ℤ, ◌+◌, ◌^◌, ◌<◌, ◌≤◌, true, false, List, [], ◌∷◌, length, sym, refl, ap, subst, ◌∙◌, inl, inr, Option, None, Some, is_some, true≢false, arith}
 use Rattle.std.specs.Prelude.{Contains}
 use Rattle.std.specs.FinMap as finmap
 use Rattle.std.proofs.lemmas.List.{length-map}
 use Rattle.lists.proofs.Cases.{none_of, some_none}
-use Rattle.lists.proofs.Entries.{Contains-head, Contains-map, map-Contains}
+use Rattle.lists.proofs.Entries.{Contains-head, map-Contains}
 use Rattle.lists.proofs.Told.{told_number}
 use Rattle.fee_rate.specs.declared.rates.FeeRate.{FeeRate}
 use Rattle.graphs.specs.declared.names.Level.{Level}
@@ -26,12 +26,12 @@ use Rattle.levels.specs.Levels.{HavePicks, IsLive, Levels, OneLevel, level_at}
 use Rattle.levels.specs.Restores.{BringsNoneOver, ComesOf, IsFirstOver, PutsTxs}
 use Rattle.levels.specs.Restores as levels
 use Rattle.tx_graph.specs.Additions.{CountsLive}
-use Rattle.tx_graph.specs.Kept.{HasRates, IsGraphOf, IsStagingOf, Kept, Leads, StandsFor, StandsPlainly, entry_of}
+use Rattle.tx_graph.specs.Kept.{IsStagingOf, Kept, Leads, StandsPlainly, entry_of}
 use Rattle.tx_graph.specs.Sound.{IsSound}
 use Rattle.tx_graph.proofs.Calls.{in_range}
 use Rattle.tx_graph.specs.Restored.{MayLackMemory, MayRestore, RestoreRefusalIs, RestoresSet}
 use Rattle.tx_graph.proofs.Counting.{live_count}
-use Rattle.tx_graph.proofs.Picked.{AreSameLevel, KeepsParts, picks_follow}
+use Rattle.tx_graph.proofs.Picked.{KeepsParts, picks_follow}
 use Rattle.tx_graph.proofs.Returns.{after, over_found, restores}
 use Rattle.tx_graph.proofs.Standing.{StandsBarely, live_told, made_valid, size_kept, staged}
 

@@ -4,7 +4,6 @@ use Rattle.std.specs.Prelude.{IfErr, IfOk, Result, Ok, Err}
 use Rattle.std.proofs.lemmas.List.{length-map}
 use Rattle.lists.specs.Distinct.{AreDistinct}
 use Rattle.lists.proofs.Entries.{Contains-map, map-Contains}
-use Rattle.graphs.specs.Closures.{Closure, is_member}
 use Rattle.graphs.specs.Graphs.{Graph, AreConnected, Lists}
 use Rattle.graphs.specs.Unions.{IsKin, IsKinOfSome, is_kin}
 use Rattle.graphs.specs.declared.names.Kin.{Kin}

@@ -1,10 +1,9 @@
 -- Places in an order of names, and names sorted by them.
-use Rattle.std.proofs.Common.{Equal, Greater, Less, ◌≡◌, ◌↔◌, ◌⊎◌, ℕ, ◌+◌, ◌<◌, ◌≤◌, Bool, true, false, cond, nat_eq, List, [], ◌∷◌, ◌++◌, length, get_or, slice_index, Contains, Some, inl, inr, refl, sym, ap, ◌∙◌, subst, length-append, eq-eqb, eqb-true, true≢false, arith}
+use Rattle.std.proofs.Common.{Equal, Greater, Less, ◌≡◌, ◌↔◌, ℕ, ◌+◌, ◌<◌, Bool, true, false, cond, nat_eq, List, [], ◌∷◌, ◌++◌, length, slice_index, Contains, Some, inl, inr, refl, sym, ap, ◌∙◌, subst, length-append, eq-eqb, eqb-true, true≢false, arith}
 use Rattle.std.specs.Cmp.{nat_cmp_is}
 use Rattle.std.specs.Ordering.{nat_cmp}
 use Rattle.std.specs.List.Sorted.{IsNonDecreasingBy}
 use Rattle.std.proofs.lemmas.Bool.{cases_order}
-use Rattle.std.proofs.lemmas.List.Elements.{Contains-get_or}
 use Rattle.lists.specs.Distinct.{AreDistinct}
 use Rattle.lists.proofs.Distinct.{distinct_apart}
 use Rattle.lists.proofs.Entries.{Contains-cases, Contains-head, Contains-later, Contains-splits, none_in_empty}

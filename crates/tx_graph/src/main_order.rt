@@ -48,14 +48,14 @@ impl<const W: usize> TxGraph<W> {
             → (pick : List Part) × (pick_of state.picks Main ≡ Some pick) × StandInOrder (order_of pick) ids.new }
     {
         let _levels = &self.levels;
-        ids.sort_unstable_by(|a: &TxId, b: &TxId| -> Ordering
-            requires { IsWithin self.now.levels Main }
-            ensures places { result ≡ nat_cmp (place_in (order_of self.entry.now.levels.main.parts) a.now)
-                (place_in (order_of self.entry.now.levels.main.parts) b.now) }
-            ensures same { self.exit ≡ self.entry }
-        {
-            self.compare_in_main(*a, *b)
-        });
+        ids.sort_unstable_by(
+            |a: &TxId, b: &TxId| -> Ordering
+                requires { IsWithin self.now.levels Main }
+                ensures places { result ≡ nat_cmp (place_in (order_of self.entry.now.levels.main.parts) a.now)
+                    (place_in (order_of self.entry.now.levels.main.parts) b.now) }
+                ensures same { self.exit ≡ self.entry }
+            { self.compare_in_main(*a, *b) },
+        );
     }
 
     // Which of two transactions stands first in main's order. One that isn't in main stands behind those that are.
@@ -94,8 +94,8 @@ impl<const W: usize> TxGraph<W> {
     pub fn main_staging_diagrams(&self) -> Result<(Rates<'_>, Rates<'_>), Refusal>
         ensures { MatchResult result
             (λ walks. (state : State) → StandsFor self.now state → (main top main_alone top_alone : List Part)
-                × (pick_of state.picks Main ≡ Some main) × (pick_of state.picks Top ≡ Some top) × AreApart main top main_alone top_alone
-                × (walks.0 ≡ sums_of main_alone) × (walks.1 ≡ sums_of top_alone))
+            × (pick_of state.picks Main ≡ Some main) × (pick_of state.picks Top ≡ Some top) × AreApart main top main_alone top_alone
+            × (walks.0 ≡ sums_of main_alone) × (walks.1 ≡ sums_of top_alone))
             (λ why. CompareRefusalIs self.now.levels (Some why)) }
     {
         needs_orders(&self.levels)?;

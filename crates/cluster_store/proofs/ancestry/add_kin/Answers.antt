@@ -1,6 +1,5 @@
 -- What is stored under the number is what its slot has.
-use Rattle.std.proofs.Common.{rules, ◌≡◌, ℕ, ◌≤◌, length, Contains, arith, sym, ◌∙◌, subst}
-use Rattle.std.proofs.lemmas.Option.{same_Some}
+use Rattle.std.proofs.Common.{rules, ◌≡◌, ℕ, ◌≤◌, length, Contains, arith, subst}
 use Rattle.cluster_store.specs.Stores.{Stored}
 use Rattle.cluster_store.proofs.ancestry.add_kin.Goals as goal
 

@@ -1,9 +1,9 @@
-use Rattle.std.proofs.Common.{ℕ, List, sym, ap, subst, arith, take, inl, inr}
+use Rattle.std.proofs.Common.{ℕ, List, sym, subst, arith, take, inl, inr}
 use Rattle.std.proofs.lemmas.List.{take_all}
 use Rattle.graphs.specs.Certificates.{Txs}
 use Rattle.graph_model.specs.Changes.{ids_of}
 use Rattle.levels.specs.Gathered.{GainsAll}
-use Rattle.levels.proofs.Listing.{gains_more, gains_none, ids_long, ids_more, name_listed, not_before}
+use Rattle.levels.proofs.Listing.{gains_more, ids_long, ids_more, name_listed, not_before}
 use Rattle.levels.proofs.restoring.add_all.Goals as goal
 
 pub add-requires-clause-absent : goal.add-requires-clause-absent

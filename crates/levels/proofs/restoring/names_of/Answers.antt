@@ -1,4 +1,4 @@
-use Rattle.std.proofs.Common.{ℕ, List, nat_eq, sym, ap, subst, arith, take}
+use Rattle.std.proofs.Common.{ℕ, List, nat_eq, sym, subst, arith, take}
 use Rattle.std.specs.HashSet as bag
 use Rattle.std.proofs.lemmas.List.{take_all}
 use Rattle.graphs.specs.Certificates.{Txs}

@@ -1,5 +1,5 @@
 -- What was put together comes in, and the rings follow.
-use Rattle.std.proofs.Common.{◌≡◌, ◌++◌, ◌*◌, ℕ, List, [], Contains, None, lit<, sym, subst}
+use Rattle.std.proofs.Common.{◌*◌, ℕ, List, [], Contains, None, lit<, sym, subst}
 use Rattle.std.proofs.lemmas.List.{append-nil}
 use Rattle.graphs.specs.declared.names.Level.TheVariants.{Top}
 use Rattle.cluster.specs.Clusters.{Cluster}

@@ -1,4 +1,4 @@
-use Rattle.std.proofs.Common.{◌≡◌, ◌^◌, ◌<◌, pos, rules, sym, ◌∙◌, true≢false, arith}
+use Rattle.std.proofs.Common.{pos, rules, sym, ◌∙◌, true≢false, arith}
 use Rattle.levels.specs.Levels.{IsLive}
 use Rattle.tx_graph.proofs.Asked.{first_here, none_at_all, none_yet, small_at_all, small_next}
 use Rattle.tx_graph.proofs.restoring.first_live.Goals as goal

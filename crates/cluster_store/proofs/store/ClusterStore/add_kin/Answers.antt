@@ -1,5 +1,5 @@
 -- What is shelved under the number is what its slot has.
-use Rattle.std.proofs.Common.{◌≡◌, ap, ◌∙◌, sym}
+use Rattle.std.proofs.Common.{◌≡◌, ap, ◌∙◌}
 use Rattle.std.specs.FinMap as finmap
 use Rattle.cluster_store.specs.Stores.{Store}
 use Rattle.cluster_store.specs.Kept.{at}

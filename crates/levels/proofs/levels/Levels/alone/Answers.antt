@@ -1,6 +1,5 @@
 -- The shelves show them.
-use Rattle.std.proofs.Common.{◌≡◌, List, sym, subst₂}
-use Rattle.graphs.specs.Certificates.{Part}
+use Rattle.std.proofs.Common.{sym, subst₂}
 use Rattle.graphs.specs.declared.names.Level.TheVariants.{Main, Top}
 use Rattle.levels.specs.Levels.{OneLevel}
 use Rattle.levels.specs.Orders.{AreApart}

@@ -1,6 +1,5 @@
 -- The clusters under the numbers are the components.
-use Rattle.std.proofs.Common.{◌≡◌, ℕ, List, length, ◌∙◌, sym, subst, arith}
-use Rattle.cluster.specs.Clusters.{Cluster}
+use Rattle.std.proofs.Common.{◌∙◌, sym, subst, arith}
 use Rattle.graphs.specs.Closures.{Closure}
 use Rattle.levels.specs.Unions.{LieIn}
 use Rattle.levels.proofs.Finds.{graph_is}
@@ -12,8 +11,8 @@ pub count_clusters-requires : goal.count_clusters-requires
 count_clusters-requires g c = (
   omega arith,
   (
-  c.self.invariant.order,
-  few_kept g.row.W c.self.inside.mains c.self.inside.tops c.self.inside.issued c.self.inside.shelves c.self.inside.rings c.self.invariant,
+    c.self.invariant.order,
+    few_kept g.row.W c.self.inside.mains c.self.inside.tops c.self.inside.issued c.self.inside.shelves c.self.inside.rings c.self.invariant,
   ),
 )
 

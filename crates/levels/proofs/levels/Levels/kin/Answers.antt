@@ -1,5 +1,5 @@
 -- The shelves tell it of the level.
-use Rattle.std.proofs.Common.{◌≡◌, ℕ, List, length, flat_map, ◌∙◌, sym, subst, arith}
+use Rattle.std.proofs.Common.{◌≡◌, List, length, flat_map, sym, subst, arith}
 use Rattle.std.specs.Prelude.{IfErr, IfOk}
 use Rattle.cluster.specs.Clusters.{Cluster}
 use Rattle.graphs.specs.Closures.{Closure}
@@ -8,15 +8,15 @@ use Rattle.graphs.specs.Unions.{IsKinOfSome}
 use Rattle.levels.specs.Unions.{LieIn}
 use Rattle.levels.proofs.Finds.{graph_is}
 use Rattle.levels.proofs.Keeping.{few_kept}
-use Rattle.levels.proofs.Kins.{lie_in, needs_lie}
+use Rattle.levels.proofs.Kins.{needs_lie}
 use Rattle.levels.proofs.levels.Levels.kin.Goals as goal
 
 pub kin-requires : goal.kin-requires
 kin-requires g c = (
   omega arith,
   (
-  c.self.invariant.order,
-  few_kept g.row.W c.self.inside.mains c.self.inside.tops c.self.inside.issued c.self.inside.shelves c.self.inside.rings c.self.invariant,
+    c.self.invariant.order,
+    few_kept g.row.W c.self.inside.mains c.self.inside.tops c.self.inside.issued c.self.inside.shelves c.self.inside.rings c.self.invariant,
   ),
 )
 

@@ -1,12 +1,10 @@
 -- Transactions come into main.
-use Rattle.std.proofs.Common.{◌≡◌, ◌≢◌, ◌+◌, ℕ, false, length, lit<, rules, sym, ap, ◌∙◌, subst, subst₂, arith}
+use Rattle.std.proofs.Common.{◌≡◌, ◌≢◌, ◌+◌, false, length, lit<, rules, sym, ap, ◌∙◌, subst₂}
 use Rattle.graphs.specs.Closures.{Closure}
-use Rattle.graphs.specs.declared.names.Level.TheVariants.{Top}
 use Rattle.graph_model.specs.declared.names.Limits.{Limits}
 use Rattle.graph_model.specs.declared.names.Refusal.TheVariants.{Memory}
 use Rattle.levels.specs.Restores.{BringsNoneOver, BringsOver, RestoresWithin}
-use Rattle.levels.specs.Shelves.{Shelf, levels_of, view_of}
-use Rattle.levels.specs.Views.{graph_of}
+use Rattle.levels.specs.Shelves.{Shelf, levels_of}
 use Rattle.levels.proofs.Finds.{limits_is}
 use Rattle.levels.proofs.Gains.{alone_now, few_more, issued_more, kept_restored, levels_restored, main_top, may_return, stays_restored}
 use Rattle.levels.proofs.Keeping.{tops_few}

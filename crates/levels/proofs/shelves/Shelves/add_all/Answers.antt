@@ -38,8 +38,8 @@ add_run-requires g c =
         (
           run_again (numbers_at c.args.level c.loop-left.self) c.loop-left.left.now run.ids.now run.rest.now run.number c.first_run-run.ensures,
           subst (λ (s : Shelf). length (names_under c.args.level s (option_to_list run.number)) ≤ c.loop-left.out.room) (sym same)
-          (run_fits g.row.W c.args.kin c.args.level c.args.self.now c.requires.order c.args.ids.now c.loop-left.left.now run.ids.now run.rest.now
-          c.loop-left.out.ids run.number c.loop-left.out.room c.loop-left.invariant.way first),
+              (run_fits g.row.W c.args.kin c.args.level c.args.self.now c.requires.order c.args.ids.now c.loop-left.left.now run.ids.now run.rest.now
+              c.loop-left.out.ids run.number c.loop-left.out.room c.loop-left.invariant.way first),
         ),
       ),
     )

@@ -1,9 +1,7 @@
 -- What the store tells of tags.
-use Rattle.std.proofs.Common.{◌≡◌, map, ap, ◌∙◌, subst}
-use Rattle.graphs.specs.declared.names.Level.TheVariants.{Main, Top}
+use Rattle.std.proofs.Common.{map, ap, ◌∙◌}
 use Rattle.chunk_index.specs.declared.entry.Tag.TheVariants.{MainOnly, TopOnly}
-use Rattle.cluster_store.specs.Stores.{Shown, Store, parts_of_level, shown_only}
-use Rattle.levels.specs.Orders.{AreApart, sums_of}
+use Rattle.cluster_store.specs.Stores.{Shown, Store, shown_only}
 use Rattle.levels.proofs.Apart.{alone_rates, are_apart}
 use Rattle.levels.proofs.shelves.Shelves.alone.Goals as goal
 

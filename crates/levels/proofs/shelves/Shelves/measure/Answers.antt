@@ -1,6 +1,6 @@
 -- One cluster more is counted, with its names: together they have no more than the level.
 use Rattle.std.proofs.Common.{◌+◌, arith}
-use Rattle.levels.proofs.Kins.{measured_all, measured_few, measured_next, measured_none}
+use Rattle.levels.proofs.Kins.{measured_few, measured_next, measured_none}
 use Rattle.levels.proofs.shelves.Shelves.measure.Goals as goal
 
 pub loop-left-init : goal.loop-left-init

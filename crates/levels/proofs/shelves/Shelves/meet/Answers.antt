@@ -1,6 +1,6 @@
 use Rattle.std.proofs.Common.{ℕ, List, nat_eq, sym, ◌∙◌, subst}
 use Rattle.std.specs.HashSet as bag
-use Rattle.lists.proofs.Cases.{false_from_not, true_from_not}
+use Rattle.lists.proofs.Cases.{false_from_not}
 use Rattle.levels.specs.Gathered.{ListsSet}
 use Rattle.levels.proofs.Listing.{set_put}
 use Rattle.levels.proofs.shelves.Shelves.meet.Goals as goal

@@ -1,4 +1,4 @@
-use Rattle.std.proofs.Common.{ℕ, List, nat_eq, subst, arith}
+use Rattle.std.proofs.Common.{ℕ, List, subst, arith}
 use Rattle.std.proofs.lemmas.List.{take_all}
 use Rattle.levels.proofs.Listing.{Met, met_more}
 use Rattle.levels.proofs.shelves.Shelves.numbers_met.Goals as goal

@@ -1,5 +1,5 @@
 -- What the level tells holds in every state.
-use Rattle.std.proofs.Common.{◌*◌, ℕ, subst}
+use Rattle.std.proofs.Common.{◌*◌, subst}
 use Rattle.std.specs.Prelude.{IfErr, IfOk}
 use Rattle.graphs.specs.Graphs.{Lists}
 use Rattle.graphs.specs.declared.names.Kin.TheVariants.{Ancestors}

@@ -1,5 +1,5 @@
 -- What the level tells holds in every state.
-use Rattle.std.proofs.Common.{◌*◌, ℕ, subst}
+use Rattle.std.proofs.Common.{◌*◌, subst}
 use Rattle.graph_model.specs.States.{State, level_of}
 use Rattle.levels.specs.Levels.{level_at}
 use Rattle.tx_graph.specs.Kept.{Kept, StandsFor}

@@ -1,5 +1,5 @@
 -- What mining would be refused for.
-use Rattle.std.proofs.Common.{◌*◌, None, Some, Option, Result, Ok, Err, sym, ap, ◌∙◌, subst}
+use Rattle.std.proofs.Common.{◌*◌, None, Some, Result, sym, ◌∙◌, subst}
 use Rattle.std.specs.Prelude.{MatchResult}
 use Rattle.graph_model.specs.declared.names.Refusal.{Refusal}
 use Rattle.graph_model.specs.Commands.{Mine}

@@ -1,13 +1,9 @@
 -- Transactions come back into main.
-use Rattle.std.proofs.Common.{◌≡◌, ◌+◌, ◌*◌, ◌<◌, ◌≤◌, ℕ, true, length, Option, None, Some, inl, inr, refl, sym, ap, ◌∙◌, subst, arith}
+use Rattle.std.proofs.Common.{◌+◌, ◌*◌, ◌≤◌, true, length, Option, None, Some, inl, inr, refl, sym, ap, ◌∙◌, subst}
 use Rattle.std.specs.Prelude.{MatchResult}
-use Rattle.lists.proofs.Cases.{none_of}
-use Rattle.graphs.specs.declared.names.Level.TheVariants.{Main}
 use Rattle.graph_model.specs.declared.names.Refusal.{Refusal}
-use Rattle.graph_model.specs.declared.names.Refusal.TheVariants.{Back, Full, Memory, Staging}
-use Rattle.graph_model.specs.States.{State}
+use Rattle.graph_model.specs.declared.names.Refusal.TheVariants.{Back, Full, Staging}
 use Rattle.levels.specs.Levels.{Levels}
-use Rattle.levels.specs.Restores as levels
 use Rattle.levels.specs.Restores.{RestoresWithin}
 use Rattle.levels.specs.Stays.{AllStay}
 use Rattle.tx_graph.specs.Kept.{Kept, Leads}
