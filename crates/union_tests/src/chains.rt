@@ -21,12 +21,12 @@ pub(crate) const ROOMY: Limits = DEFAULT_LIMITS;
 
 fn add<L: Ledger>(rt: &impl Abort, graph: &mut TxGraph<1>, id: TxId, steps: &mut Steps<L>) {
     assert!(rt; graph.additions() < 1_000);
-    let done = graph.add(id, (id * 37 % 101) as i64, 100 + id % 3, steps);
+    let done = graph.add(id, (id.wrapping_mul(37) % 101) as i64, 100 + id % 3, steps);
     assert!(rt; done.is_ok());
 }
 
 fn link<L: Ledger>(rt: &impl Abort, graph: &mut TxGraph<1>, id: TxId, steps: &mut Steps<L>) {
-    let done = graph.dep(id - 4, id, steps);
+    let done = graph.dep(id.wrapping_sub(4), id, steps);
     assert!(rt; done.is_ok());
 }
 

@@ -23,7 +23,13 @@ fn listed(rt: &impl Abort, alloc: Global, graph: &TxGraph<1>) -> Result<Vec<TxId
 }
 
 // The fees and sizes of the chunks of a level that have none of some names, and of those that have one.
-fn rates(rt: &impl Abort, alloc: Global, graph: &TxGraph<1>, level: Level, chain: TxId) -> Result<Vec<FeeRate>, Fail> {
+fn rates(
+    rt: &impl Abort,
+    alloc: Global,
+    graph: &TxGraph<1>,
+    level: Level,
+    chain: TxId,
+) -> Result<Vec<FeeRate>, Fail> {
     assert!(rt; !graph.oversized(level));
     let mut rates = Vec::new(alloc);
     for part in graph.order(level) {
@@ -33,7 +39,13 @@ fn rates(rt: &impl Abort, alloc: Global, graph: &TxGraph<1>, level: Level, chain
 }
 
 // Puts a rate behind some, where the chunk is of one chain.
-fn put_rate(rt: &impl Abort, rates: &mut Vec<FeeRate>, rate: FeeRate, ids: &[TxId], chain: TxId) -> Result<(), Fail> {
+fn put_rate(
+    rt: &impl Abort,
+    rates: &mut Vec<FeeRate>,
+    rate: FeeRate,
+    ids: &[TxId],
+    chain: TxId,
+) -> Result<(), Fail> {
     assert!(rt; !ids.is_empty());
     if ids[0] % 4 == chain {
         rates.push(rate)?;
@@ -60,7 +72,7 @@ fn sort(rt: &impl Abort, alloc: Global, graph: &TxGraph<1>) -> Result<(), Fail> 
     assert!(rt; ids.len() == order.len() + 2);
     let (known, others) = ids.as_slice().split_at(order.len());
     assert!(rt; known == order.as_slice());
-    assert!(rt; others[0] + others[1] == 99);
+    assert!(rt; others[0].wrapping_add(others[1]) == 99);
     Ok(())
 }
 
@@ -86,10 +98,10 @@ fn orders<K: ledger::Ledger>(rt: &impl Abort, alloc: Global, blank: Blank) -> Re
 {
     let mut steps = Steps::new(NoLedger::<K>::new(blank));
     let graph = chains(rt, alloc, ROOMY, &mut steps)?;
-    sort(rt, alloc, &graph)?;
     rate_each(rt, &graph);
+    let told = sort(rt, alloc, &graph);
     done(graph);
-    Ok(())
+    told
 }
 
 #[test]
@@ -130,9 +142,9 @@ fn sides<K: ledger::Ledger>(rt: &impl Abort, alloc: Global, blank: Blank) -> Res
     let mut graph = chains(rt, alloc, ROOMY, &mut steps)?;
     assert!(rt; graph.main_staging_diagrams().is_err());
     cut(rt, &mut graph, &mut steps);
-    compare_chains(rt, alloc, &graph)?;
+    let told = compare_chains(rt, alloc, &graph);
     done(graph);
-    Ok(())
+    told
 }
 
 #[test]

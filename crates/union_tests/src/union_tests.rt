@@ -43,77 +43,118 @@ fn is_kin_of_some(kin: Kin, a: TxId, ids: &[TxId]) -> bool {
     false
 }
 
-// The names of which that holds, in rising order.
-fn expected(alloc: Global, kin: Kin, ids: &[TxId]) -> Result<Vec<TxId>, Fail> {
-    let mut list = Vec::new(alloc);
-    for a in 1..=LAST {
-        if is_kin_of_some(kin, a, ids) {
-            list.push(a)?;
-        }
-    }
-    Ok(list)
-}
-
 // In how many chains some names lie.
 fn chain_count(ids: &[TxId]) -> usize {
-    let mut count = 0;
+    let mut count = 0usize;
     for first in 1..=4u64 {
         if is_kin_of_some(Kin::Ancestors, first, ids) {
-            count += 1;
+            count = count.wrapping_add(1);
         }
     }
     count
 }
 
-fn union(
-    graph: &mut TxGraph<1>,
-    kin: Kin,
-    ids: &mut [TxId],
-    out: &mut IdBuf,
-) -> Result<(), usize> {
+// What is asked and what is wanted. What makes no list anew lets none go, which costs proof.
+#[derive(Drop)]
+struct Lists {
+    wanted: Vec<TxId>,
+    asked: Vec<TxId>,
+    out: IdBuf,
+    small: IdBuf,
+}
+
+fn new_lists(alloc: Global) -> Result<Lists, Fail> {
+    Ok(Lists {
+        wanted: Vec::new(alloc),
+        asked: Vec::new(alloc),
+        out: IdBuf::new(alloc, 24)?,
+        small: IdBuf::new(alloc, 5)?,
+    })
+}
+
+// Writes down the names that are wanted, in rising order, and those that are asked of.
+fn prepare(lists: &mut Lists, kin: Kin, ids: &[TxId]) -> Result<(), Fail> {
+    lists.wanted.clear();
+    for a in 1..=LAST {
+        if is_kin_of_some(kin, a, ids) {
+            lists.wanted.push(a)?;
+        }
+    }
+    lists.asked.clear();
+    lists.asked.extend_from_slice(ids)?;
+    Ok(())
+}
+
+fn union(graph: &mut TxGraph<1>, kin: Kin, ids: &mut [TxId], out: &mut IdBuf) -> Result<(), usize> {
     match kin {
         Kin::Ancestors => graph.ancestors_union(Level::Main, ids, out),
         Kin::Descendants => graph.descendants_union(Level::Main, ids, out),
     }
 }
 
-// Asks of some names, with room for all and with room for less than one chain.
-fn ask(rt: &impl Abort, alloc: Global, graph: &mut TxGraph<1>, kin: Kin, ids: &[TxId]) -> Result<(), Fail> {
-    let list = expected(alloc, kin, ids)?;
-    let mut moved = Vec::from_slice(alloc, ids)?;
-    let mut out = IdBuf::new(alloc, 24)?;
-    assert!(rt; union(graph, kin, moved.as_mut_slice(), &mut out) == Ok(()));
-    assert!(rt; out.ids() == list.as_slice());
-    let mut small = IdBuf::new(alloc, 5)?;
-    let needs = 6 * chain_count(ids);
-    let told = if needs == 0 { Ok(()) } else { Err(needs) };
-    assert!(rt; union(graph, kin, moved.as_mut_slice(), &mut small) == told);
-    assert!(rt; small.ids().is_empty());
-    moved.sort_unstable();
-    let mut same = Vec::from_slice(alloc, ids)?;
-    same.sort_unstable();
-    assert!(rt; moved == same);
+fn count(graph: &TxGraph<1>, ids: &mut [TxId]) -> usize {
+    graph.count_distinct_clusters(Level::Main, ids)
+}
+
+// With room for all.
+fn answered(rt: &impl Abort, graph: &mut TxGraph<1>, kin: Kin, lists: &mut Lists) {
+    let done = union(graph, kin, lists.asked.as_mut_slice(), &mut lists.out);
+    assert!(rt; done == Ok(()));
+    assert!(rt; lists.out.ids() == lists.wanted.as_slice());
+}
+
+// With room for less than one chain.
+fn needs_room(rt: &impl Abort, graph: &mut TxGraph<1>, kin: Kin, lists: &mut Lists, chains: usize) {
+    lists.small.clear();
+    let done = union(graph, kin, lists.asked.as_mut_slice(), &mut lists.small);
+    assert!(rt; chains > 0 || done == Ok(()));
+    assert!(rt; chains == 0 || done == Err(chains.wrapping_mul(6)));
+    assert!(rt; lists.small.ids().is_empty());
+}
+
+// The names that were asked of are those that were, in some order.
+fn stays(rt: &impl Abort, lists: &mut Lists, ids: &[TxId]) {
+    assert!(rt; lists.asked.len() == ids.len());
+    for id in ids {
+        assert!(rt; lists.asked.as_slice().contains(id));
+    }
+}
+
+fn ask(
+    rt: &impl Abort,
+    graph: &mut TxGraph<1>,
+    lists: &mut Lists,
+    kin: Kin,
+    ids: &[TxId],
+) -> Result<(), Fail> {
+    prepare(lists, kin, ids)?;
+    answered(rt, graph, kin, lists);
+    needs_room(rt, graph, kin, lists, chain_count(ids));
+    assert!(rt; count(graph, lists.asked.as_mut_slice()) == chain_count(ids));
+    stays(rt, lists, ids);
     Ok(())
 }
 
-fn count(rt: &impl Abort, alloc: Global, graph: &TxGraph<1>, ids: &[TxId]) -> Result<(), Fail> {
-    let mut moved = Vec::from_slice(alloc, ids)?;
-    let found = graph.count_distinct_clusters(Level::Main, moved.as_mut_slice());
-    assert!(rt; found == chain_count(ids));
+fn ask_each(rt: &impl Abort, graph: &mut TxGraph<1>, lists: &mut Lists) -> Result<(), Fail> {
+    for ids in ASKED {
+        ask(rt, graph, lists, Kin::Ancestors, ids)?;
+        ask(rt, graph, lists, Kin::Descendants, ids)?;
+    }
     Ok(())
 }
 
 // All that is asked, of a graph under these limits.
-fn ask_all<L: Ledger>(rt: &impl Abort, alloc: Global, limits: Limits, steps: &mut Steps<L>) -> Result<(), Fail> {
+fn ask_all<L: Ledger>(
+    rt: &impl Abort,
+    alloc: Global,
+    limits: Limits,
+    steps: &mut Steps<L>,
+) -> Result<(), Fail> {
+    let mut lists = new_lists(alloc)?;
     let mut graph = chains(rt, alloc, limits, steps)?;
-    assert!(rt; graph.oversized(Level::Main) == limits.defer);
-    for ids in ASKED {
-        ask(rt, alloc, &mut graph, Kin::Ancestors, ids)?;
-        ask(rt, alloc, &mut graph, Kin::Descendants, ids)?;
-        count(rt, alloc, &graph, ids)?;
-    }
+    let told = ask_each(rt, &mut graph, &mut lists);
     done(graph);
-    Ok(())
+    told
 }
 
 fn unions<K: ledger::Ledger>(
