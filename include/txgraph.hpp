@@ -167,6 +167,11 @@ public:
             return std::nullopt;
         return found;
     }
+    std::optional<Rate> main_chunk_rate(Id id) {
+        Rate rate{};
+        if (!is_done(txgraph_main_chunk_rate(&slot_, id, &rate, &kept_))) return std::nullopt;
+        return rate;
+    }
     std::optional<Names> cluster(Level level, Id id) { return look(txgraph_cluster, level, id); }
     std::optional<Names> ancestors(Level level, Id id) { return look(txgraph_ancestors, level, id); }
     std::optional<Names> descendants(Level level, Id id) { return look(txgraph_descendants, level, id); }
@@ -192,6 +197,30 @@ public:
         is_done(txgraph_sums(&slot_, id, &live, &rate));
         if (!live) return std::nullopt;
         return rate;
+    }
+    Limits limits() {
+        Limits found;
+        is_done(txgraph_limits(&slot_, &found.count, &found.size, &found.total, &found.defer));
+        return found;
+    }
+    bool staged() {
+        bool staged = false;
+        is_done(txgraph_staged(&slot_, &staged));
+        return staged;
+    }
+    std::uint64_t additions() {
+        std::uint64_t count = 0;
+        is_done(txgraph_additions(&slot_, &count));
+        return count;
+    }
+    std::uint64_t least() {
+        std::uint64_t size = 0;
+        is_done(txgraph_least(&slot_, &size));
+        return size;
+    }
+    bool minable(std::span<const Id> ids) {
+        const Id none = 0;
+        return is_done(txgraph_minable(&slot_, ids.empty() ? &none : ids.data(), ids.size(), &kept_));
     }
     std::optional<Picked> block(std::uint64_t size) {
         Picked found;

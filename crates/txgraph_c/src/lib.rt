@@ -23,6 +23,7 @@ pub mod codes;
 mod copying;
 mod corners;
 mod desk;
+mod facts;
 mod gathering;
 mod handle;
 mod life;

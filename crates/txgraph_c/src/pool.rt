@@ -1,6 +1,6 @@
 //! A graph beside the mined blocks of its main that can be taken back. Each call is the graph's, and leaves the blocks, but for those that mine
 //! a block and take one back.
-ghost use Rattle.std.specs.Prelude.{◌≡◌, ◌≢◌, [], ◌+◌, ◌-◌, ◌*◌, ◌^◌, ◌<◌, ◌≤◌, length, IfOk};
+ghost use Rattle.std.specs.Prelude.{◌≡◌, ◌≢◌, [], ◌+◌, ◌-◌, ◌*◌, ◌^◌, ◌<◌, ◌≤◌, length, None, Some, IfOk, MatchResult};
 ghost use Rattle.graph_model.specs.Commands.{Before, Block, Compare, Count, Evict, Mine, Settle, Trim, Unmine};
 ghost use Rattle.graph_model.specs.Refusals.{latest_ids};
 ghost use Rattle.graph_model.specs.Replies.{Number, built_reply, change_reply, evicted_reply, names_reply, trimmed_reply};
@@ -10,6 +10,7 @@ ghost use Rattle.tx_graph.specs.Readings.{compare_reply, place_reply, settle_rep
 ghost use Rattle.reorg.specs.Blocks.{unmined_reply};
 ghost use Rattle.reorg.specs.Kept.{MakesStep};
 ghost use Rattle.graph_model.specs.Commands as commands;
+ghost use Rattle.txgraph_c.specs.Facts.{Meets};
 ghost use Rattle.txgraph_c.specs.Finds.{Finds, ShowsIds};
 ghost use Rattle.txgraph_c.specs.Gatherings.{GathersCorners, GathersOrder, GathersText};
 ghost use Rattle.txgraph_c.specs.Pools.{IsNew};
@@ -129,6 +130,15 @@ impl Pool {
         ensures { MakesStep self.old self.new (Mine ids.now) (change_reply result) }
     {
         self.reorg.mine(&mut self.graph, ids, steps)
+    }
+
+    /// What mining these transactions would be refused for, other than want of memory.
+    pub(crate) fn minable(&mut self, ids: &[TxId]) -> Result<(), Refusal>
+        requires { ids.now ≢ [] }
+        ensures row { MatchResult result (λ _. Meets self.old (Mine ids.now) None) (λ why. Meets self.old (Mine ids.now) (Some why)) }
+        ensures same { self.new ≡ self.old }
+    {
+        self.graph.minable(ids)
     }
 
     /// Puts the transactions of the latest block back into main, and tells them.
