@@ -209,6 +209,17 @@ uint32_t txgraph_ancestors(txgraph_slot *slot, uint32_t level, uint64_t id, uint
 uint32_t txgraph_descendants(txgraph_slot *slot, uint32_t level, uint64_t id, uint64_t *ids, size_t ids_len, size_t *count,
                              uint64_t *kept);
 
+/* The ancestors, or the descendants, of several transactions in a level together, themselves among them, in rising order: as many as the array
+ * has room for, and in *count how many there are. One that the level hasn't is passed over, and one may be listed twice. The level may be
+ * oversized. Answer MEMORY. */
+uint32_t txgraph_ancestors_union(txgraph_slot *slot, uint32_t level, const uint64_t *names, size_t names_len, uint64_t *ids,
+                                 size_t ids_len, size_t *count);
+uint32_t txgraph_descendants_union(txgraph_slot *slot, uint32_t level, const uint64_t *names, size_t names_len, uint64_t *ids,
+                                   size_t ids_len, size_t *count);
+
+/* How many clusters of a level several transactions lie in, passed over and listed as before. The level may be oversized. Answers MEMORY. */
+uint32_t txgraph_count_distinct_clusters(txgraph_slot *slot, uint32_t level, const uint64_t *ids, size_t ids_len, size_t *count);
+
 /* How many transactions a level has. */
 uint32_t txgraph_count(txgraph_slot *slot, uint32_t level, size_t *count);
 

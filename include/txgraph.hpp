@@ -176,6 +176,20 @@ public:
     std::optional<Names> ancestors(Level level, Id id) { return look(txgraph_ancestors, level, id); }
     std::optional<Names> descendants(Level level, Id id) { return look(txgraph_descendants, level, id); }
 
+    std::optional<std::vector<Id>> ancestors_union(Level level, std::span<const Id> names) {
+        return unite(txgraph_ancestors_union, level, names);
+    }
+    std::optional<std::vector<Id>> descendants_union(Level level, std::span<const Id> names) {
+        return unite(txgraph_descendants_union, level, names);
+    }
+    std::optional<std::size_t> count_distinct_clusters(Level level, std::span<const Id> ids) {
+        const Id none = 0;
+        std::size_t count = 0;
+        if (!is_done(txgraph_count_distinct_clusters(&slot_, as_number(level), ids.empty() ? &none : ids.data(), ids.size(), &count)))
+            return std::nullopt;
+        return count;
+    }
+
     std::size_t count(Level level) {
         std::size_t count = 0;
         is_done(txgraph_count(&slot_, as_number(level), &count));
@@ -292,6 +306,22 @@ private:
         if (!is_done(search(&slot_, as_number(level), id, found.ids_.data(), TXGRAPH_MOST, &found.count_, &kept_)))
             return std::nullopt;
         return found;
+    }
+
+    using Union = std::uint32_t(txgraph_slot *, std::uint32_t, const std::uint64_t *, std::size_t, std::uint64_t *, std::size_t, std::size_t *);
+
+    // asked again where there are more than there was room for
+    std::optional<std::vector<Id>> unite(Union ask, Level level, std::span<const Id> names) {
+        const Id none = 0;
+        std::vector<Id> found(TXGRAPH_MOST);
+        std::size_t count = 0;
+        for (;;) {
+            const Id *at = names.empty() ? &none : names.data();
+            if (!is_done(ask(&slot_, as_number(level), at, names.size(), found.data(), found.size(), &count))) return std::nullopt;
+            const bool all = count <= found.size();
+            found.resize(count);
+            if (all) return found;
+        }
     }
 
     txgraph_slot slot_{};

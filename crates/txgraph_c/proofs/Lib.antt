@@ -5,3 +5,4 @@ pub mod CheckLemmas
 pub mod PoolLemmas
 pub mod CallLemmas
 pub mod FactLemmas
+pub mod UnionLemmas

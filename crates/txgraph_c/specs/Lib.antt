@@ -10,3 +10,4 @@ pub mod Gatherings
 pub mod Loading
 pub mod Calls
 pub mod Facts
+pub mod Unions

@@ -37,3 +37,5 @@ mod reading;
 mod request;
 mod slot;
 mod telling;
+mod unions;
+mod uniting;

@@ -15,6 +15,7 @@ ghost use Rattle.txgraph_c.specs.Finds.{Finds, ShowsIds};
 ghost use Rattle.txgraph_c.specs.Gatherings.{GathersCorners, GathersOrder, GathersText};
 ghost use Rattle.txgraph_c.specs.Pools.{IsNew};
 ghost use Rattle.txgraph_c.specs.Requests.{change_command, search_command};
+ghost use Rattle.txgraph_c.specs.Unions.{AreInClusters, AreKinOf};
 ghost use Rattle.graph_model.specs.Limits.{AreInRange, bounds_of};
 
 use crate::copying::hand_out;
@@ -22,11 +23,12 @@ use crate::gathering::{gather_corners, gather_order};
 use crate::listing::Listing;
 use crate::request::{Change, Search};
 use crate::telling::Total;
+use crate::uniting::{count_clusters, kin_of};
 use block_builder::Builder;
 use dump::DumpText;
 use eviction::evict;
 use graph_model::{IdBuf, IdList, Level, Limits, Picked, Place, Refusal, TxId, Verdict};
-use graphs::Owned;
+use graphs::{Kin, Owned};
 use outside::NoMemory;
 use reorg::Reorg;
 use std::alloc::Global;
@@ -190,6 +192,21 @@ impl Pool {
     {
         let outcome = search.find(&self.graph, &mut self.found);
         show_found(outcome, self.found.ids(), out, count)
+    }
+
+    /// The ancestors of these transactions together, or their descendants.
+    pub(crate) fn kin(&mut self, kin: Kin, level: Level, ids: &[TxId]) -> Result<IdBuf, NoMemory>
+        ensures kin { IfOk result (λ found. AreKinOf self.old kin level ids.now found.ids) }
+        ensures same { self.new ≡ self.old }
+    {
+        kin_of(self.alloc, &mut self.graph, kin, level, ids)
+    }
+
+    /// How many clusters of a level these transactions lie in.
+    pub(crate) fn count_clusters(&self, level: Level, ids: &[TxId]) -> Result<usize, NoMemory>
+        ensures { IfOk result (λ count. AreInClusters self.now level ids.now count) }
+    {
+        count_clusters(self.alloc, &self.graph, level, ids)
     }
 
     /// How many transactions a level has.
