@@ -198,6 +198,9 @@ uint32_t txgraph_before(txgraph_slot *slot, uint64_t a, uint64_t b, uint32_t *pl
 uint32_t txgraph_chunk(txgraph_slot *slot, uint64_t id, txgraph_rate *rate, uint64_t *ids, size_t ids_len, size_t *count,
                        uint64_t *kept);
 
+/* The fee and the size of the chunk of main's order that has a transaction. Answers UNKNOWN, OVERSIZED. */
+uint32_t txgraph_main_chunk_rate(txgraph_slot *slot, uint64_t id, txgraph_rate *rate, uint64_t *kept);
+
 /* The transactions of a transaction's cluster, its ancestors, or its descendants, itself among them, in rising order: as many as the array has
  * room for, and in *count how many there are, at most TXGRAPH_MOST. Answer UNKNOWN, OVERSIZED. */
 uint32_t txgraph_cluster(txgraph_slot *slot, uint32_t level, uint64_t id, uint64_t *ids, size_t ids_len, size_t *count, uint64_t *kept);
@@ -205,6 +208,17 @@ uint32_t txgraph_ancestors(txgraph_slot *slot, uint32_t level, uint64_t id, uint
                            uint64_t *kept);
 uint32_t txgraph_descendants(txgraph_slot *slot, uint32_t level, uint64_t id, uint64_t *ids, size_t ids_len, size_t *count,
                              uint64_t *kept);
+
+/* The ancestors, or the descendants, of several transactions in a level together, themselves among them, in rising order: as many as the array
+ * has room for, and in *count how many there are. One that the level hasn't is passed over, and one may be listed twice. The level may be
+ * oversized. Answer MEMORY. */
+uint32_t txgraph_ancestors_union(txgraph_slot *slot, uint32_t level, const uint64_t *names, size_t names_len, uint64_t *ids,
+                                 size_t ids_len, size_t *count);
+uint32_t txgraph_descendants_union(txgraph_slot *slot, uint32_t level, const uint64_t *names, size_t names_len, uint64_t *ids,
+                                   size_t ids_len, size_t *count);
+
+/* How many clusters of a level several transactions lie in, passed over and listed as before. The level may be oversized. Answers MEMORY. */
+uint32_t txgraph_count_distinct_clusters(txgraph_slot *slot, uint32_t level, const uint64_t *ids, size_t ids_len, size_t *count);
 
 /* How many transactions a level has. */
 uint32_t txgraph_count(txgraph_slot *slot, uint32_t level, size_t *count);
@@ -217,6 +231,23 @@ uint32_t txgraph_oversized(txgraph_slot *slot, uint32_t level, bool *over);
 
 /* Whether a transaction is in main or in staging, and its fee and size where it is. */
 uint32_t txgraph_sums(txgraph_slot *slot, uint64_t id, bool *live, txgraph_rate *rate);
+
+/* The limits in force, as txgraph_set_limits takes them. */
+uint32_t txgraph_limits(txgraph_slot *slot, uint64_t *count, uint64_t *size, uint64_t *total, bool *defer);
+
+/* Whether a staging is open. */
+uint32_t txgraph_staged(txgraph_slot *slot, bool *staged);
+
+/* How many additions were counted since the graph was made, also those of transactions that came back with a block. At 2^64 - 1 changes answer
+ * SPENT. */
+uint32_t txgraph_additions(txgraph_slot *slot, uint64_t *count);
+
+/* A size that no transaction of main is below, and no chunk of main's order. */
+uint32_t txgraph_least(txgraph_slot *slot, uint64_t *size);
+
+/* What txgraph_mine would be refused for with these transactions, other than want of memory; DONE where for nothing. Nothing is mined. Answers
+ * NO_NAMES, STAGING, TWICE, UNKNOWN, PARENT. */
+uint32_t txgraph_minable(txgraph_slot *slot, const uint64_t *ids, size_t ids_len, uint64_t *kept);
 
 /* Fills a block of main of at most so many virtual bytes, and picks its transactions in their order. Answers OVERSIZED, MEMORY. */
 uint32_t txgraph_block(txgraph_slot *slot, uint64_t size, txgraph_total *total, uint64_t *kept);

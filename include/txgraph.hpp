@@ -167,9 +167,28 @@ public:
             return std::nullopt;
         return found;
     }
+    std::optional<Rate> main_chunk_rate(Id id) {
+        Rate rate{};
+        if (!is_done(txgraph_main_chunk_rate(&slot_, id, &rate, &kept_))) return std::nullopt;
+        return rate;
+    }
     std::optional<Names> cluster(Level level, Id id) { return look(txgraph_cluster, level, id); }
     std::optional<Names> ancestors(Level level, Id id) { return look(txgraph_ancestors, level, id); }
     std::optional<Names> descendants(Level level, Id id) { return look(txgraph_descendants, level, id); }
+
+    std::optional<std::vector<Id>> ancestors_union(Level level, std::span<const Id> names) {
+        return unite(txgraph_ancestors_union, level, names);
+    }
+    std::optional<std::vector<Id>> descendants_union(Level level, std::span<const Id> names) {
+        return unite(txgraph_descendants_union, level, names);
+    }
+    std::optional<std::size_t> count_distinct_clusters(Level level, std::span<const Id> ids) {
+        const Id none = 0;
+        std::size_t count = 0;
+        if (!is_done(txgraph_count_distinct_clusters(&slot_, as_number(level), ids.empty() ? &none : ids.data(), ids.size(), &count)))
+            return std::nullopt;
+        return count;
+    }
 
     std::size_t count(Level level) {
         std::size_t count = 0;
@@ -192,6 +211,30 @@ public:
         is_done(txgraph_sums(&slot_, id, &live, &rate));
         if (!live) return std::nullopt;
         return rate;
+    }
+    Limits limits() {
+        Limits found;
+        is_done(txgraph_limits(&slot_, &found.count, &found.size, &found.total, &found.defer));
+        return found;
+    }
+    bool staged() {
+        bool staged = false;
+        is_done(txgraph_staged(&slot_, &staged));
+        return staged;
+    }
+    std::uint64_t additions() {
+        std::uint64_t count = 0;
+        is_done(txgraph_additions(&slot_, &count));
+        return count;
+    }
+    std::uint64_t least() {
+        std::uint64_t size = 0;
+        is_done(txgraph_least(&slot_, &size));
+        return size;
+    }
+    bool minable(std::span<const Id> ids) {
+        const Id none = 0;
+        return is_done(txgraph_minable(&slot_, ids.empty() ? &none : ids.data(), ids.size(), &kept_));
     }
     std::optional<Picked> block(std::uint64_t size) {
         Picked found;
@@ -263,6 +306,22 @@ private:
         if (!is_done(search(&slot_, as_number(level), id, found.ids_.data(), TXGRAPH_MOST, &found.count_, &kept_)))
             return std::nullopt;
         return found;
+    }
+
+    using Union = std::uint32_t(txgraph_slot *, std::uint32_t, const std::uint64_t *, std::size_t, std::uint64_t *, std::size_t, std::size_t *);
+
+    // asked again where there are more than there was room for
+    std::optional<std::vector<Id>> unite(Union ask, Level level, std::span<const Id> names) {
+        const Id none = 0;
+        std::vector<Id> found(TXGRAPH_MOST);
+        std::size_t count = 0;
+        for (;;) {
+            const Id *at = names.empty() ? &none : names.data();
+            if (!is_done(ask(&slot_, as_number(level), at, names.size(), found.data(), found.size(), &count))) return std::nullopt;
+            const bool all = count <= found.size();
+            found.resize(count);
+            if (all) return found;
+        }
     }
 
     txgraph_slot slot_{};

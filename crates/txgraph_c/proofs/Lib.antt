@@ -4,3 +4,5 @@ pub mod Lists
 pub mod CheckLemmas
 pub mod PoolLemmas
 pub mod CallLemmas
+pub mod FactLemmas
+pub mod UnionLemmas

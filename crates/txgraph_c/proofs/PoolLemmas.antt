@@ -49,6 +49,12 @@ pub pool_reads : (graph : graphs.Kept) (blocks : List MinedBlock) (seen : Kept) 
 pool_reads graph blocks seen command reply leaves is steps =
     subst (λ (k : Kept). MakesStep k k command reply) is (lifted graph graph command reply blocks leaves steps)
 
+-- a reading of the graph that a pool lends
+pub graph_reads : (pool : Kept) (graph : graphs.Kept) (command : Command) (reply : Reply) → LeavesBlocks command → graph ≡ pool.graph
+    → graphs.MakesStep graph graph command reply → MakesStep pool pool command reply
+graph_reads pool graph command reply leaves is step =
+    lifted pool.graph pool.graph command reply pool.blocks leaves (subst (λ (g : graphs.Kept). graphs.MakesStep g g command reply) is step)
+
 -- a graph without mined blocks
 pub pool_without_blocks : (graph : graphs.Kept) (blocks : List MinedBlock) (found : Room) (state : State) → graphs.StandsFor graph state
     → state.plain.blocks ≡ [] → blocks ≡ [] → 128 ≤ length found.ids + found.room → IsPool (pool_of graph blocks) found

@@ -9,3 +9,5 @@ pub mod Desks
 pub mod Gatherings
 pub mod Loading
 pub mod Calls
+pub mod Facts
+pub mod Unions

@@ -1,6 +1,6 @@
 //! A graph beside the mined blocks of its main that can be taken back. Each call is the graph's, and leaves the blocks, but for those that mine
 //! a block and take one back.
-ghost use Rattle.std.specs.Prelude.{◌≡◌, ◌≢◌, [], ◌+◌, ◌-◌, ◌*◌, ◌^◌, ◌<◌, ◌≤◌, length, IfOk};
+ghost use Rattle.std.specs.Prelude.{◌≡◌, ◌≢◌, [], ◌+◌, ◌-◌, ◌*◌, ◌^◌, ◌<◌, ◌≤◌, length, None, Some, IfOk, MatchResult};
 ghost use Rattle.graph_model.specs.Commands.{Before, Block, Compare, Count, Evict, Mine, Settle, Trim, Unmine};
 ghost use Rattle.graph_model.specs.Refusals.{latest_ids};
 ghost use Rattle.graph_model.specs.Replies.{Number, built_reply, change_reply, evicted_reply, names_reply, trimmed_reply};
@@ -10,10 +10,12 @@ ghost use Rattle.tx_graph.specs.Readings.{compare_reply, place_reply, settle_rep
 ghost use Rattle.reorg.specs.Blocks.{unmined_reply};
 ghost use Rattle.reorg.specs.Kept.{MakesStep};
 ghost use Rattle.graph_model.specs.Commands as commands;
+ghost use Rattle.txgraph_c.specs.Facts.{Meets};
 ghost use Rattle.txgraph_c.specs.Finds.{Finds, ShowsIds};
 ghost use Rattle.txgraph_c.specs.Gatherings.{GathersCorners, GathersOrder, GathersText};
 ghost use Rattle.txgraph_c.specs.Pools.{IsNew};
 ghost use Rattle.txgraph_c.specs.Requests.{change_command, search_command};
+ghost use Rattle.txgraph_c.specs.Unions.{AreInClusters, AreKinOf};
 ghost use Rattle.graph_model.specs.Limits.{AreInRange, bounds_of};
 
 use crate::copying::hand_out;
@@ -21,11 +23,12 @@ use crate::gathering::{gather_corners, gather_order};
 use crate::listing::Listing;
 use crate::request::{Change, Search};
 use crate::telling::Total;
+use crate::uniting::{count_clusters, kin_of};
 use block_builder::Builder;
 use dump::DumpText;
 use eviction::evict;
 use graph_model::{IdBuf, IdList, Level, Limits, Picked, Place, Refusal, TxId, Verdict};
-use graphs::Owned;
+use graphs::{Kin, Owned};
 use outside::NoMemory;
 use reorg::Reorg;
 use std::alloc::Global;
@@ -131,6 +134,15 @@ impl Pool {
         self.reorg.mine(&mut self.graph, ids, steps)
     }
 
+    /// What mining these transactions would be refused for, other than want of memory.
+    pub(crate) fn minable(&mut self, ids: &[TxId]) -> Result<(), Refusal>
+        requires { ids.now ≢ [] }
+        ensures row { MatchResult result (λ _. Meets self.old (Mine ids.now) None) (λ why. Meets self.old (Mine ids.now) (Some why)) }
+        ensures same { self.new ≡ self.old }
+    {
+        self.graph.minable(ids)
+    }
+
     /// Puts the transactions of the latest block back into main, and tells them.
     pub(crate) fn unmine<L: Ledger>(&mut self, steps: &mut Steps<L>) -> Result<IdList, Refusal>
         requires { self.old.graph.levels.issued + length (latest_ids self.old.blocks) ≤ 2 ^ 64 - 1 }
@@ -180,6 +192,21 @@ impl Pool {
     {
         let outcome = search.find(&self.graph, &mut self.found);
         show_found(outcome, self.found.ids(), out, count)
+    }
+
+    /// The ancestors of these transactions together, or their descendants.
+    pub(crate) fn kin(&mut self, kin: Kin, level: Level, ids: &[TxId]) -> Result<IdBuf, NoMemory>
+        ensures kin { IfOk result (λ found. AreKinOf self.old kin level ids.now found.ids) }
+        ensures same { self.new ≡ self.old }
+    {
+        kin_of(self.alloc, &mut self.graph, kin, level, ids)
+    }
+
+    /// How many clusters of a level these transactions lie in.
+    pub(crate) fn count_clusters(&self, level: Level, ids: &[TxId]) -> Result<usize, NoMemory>
+        ensures { IfOk result (λ count. AreInClusters self.now level ids.now count) }
+    {
+        count_clusters(self.alloc, &self.graph, level, ids)
     }
 
     /// How many transactions a level has.

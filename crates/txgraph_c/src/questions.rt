@@ -5,14 +5,15 @@ ghost use Rattle.graph_model.specs.Replies.{Number};
 ghost use Rattle.reorg.specs.Kept.{MakesStep};
 ghost use Rattle.txgraph_c.specs.Calls.{Asks, GivesPiece, Knows, Makes, OfSlot, ShowsPart, ShowsPlace, ShowsTotal, ShowsVerdict, Tells, TellsOversized, TellsRate, TellsThere};
 ghost use Rattle.txgraph_c.specs.Numbers.{level_named};
+ghost use Rattle.txgraph_c.specs.Facts.{MayMine, ShowsRate};
 ghost use Rattle.txgraph_c.specs.Finds.{ShowsIds};
 ghost use Rattle.txgraph_c.specs.Requests.{search_command};
 
 use crate::codes::{DONE, NO_GRAPH};
 use crate::picking::fill_block;
 use crate::reading::{
-    give_picked, is_oversized, is_there, tell_chunk, tell_count, tell_found, tell_place, tell_rate,
-    tell_verdict,
+    give_picked, is_oversized, is_there, tell_chunk, tell_chunk_rate, tell_count, tell_found,
+    tell_minable, tell_place, tell_rate, tell_verdict,
 };
 use crate::request::Search;
 use crate::slot::{Slot, put, take};
@@ -94,6 +95,31 @@ pub extern "C" fn txgraph_chunk(
         return NO_GRAPH;
     };
     let code = tell_chunk(&desk, id, rate, ids, count, kept);
+    put(slot, desk);
+    code
+}
+
+/// The fee and the size of the chunk of main's order that has a transaction.
+///
+/// # Errors
+///
+/// - 1: the slot has no graph.
+/// - 10 unknown, with the name: main hasn't the transaction. 19 oversized: main is over the limits of a cluster.
+#[unsafe(no_mangle)]
+pub extern "C" fn txgraph_main_chunk_rate(
+    alloc: Global,
+    slot: &mut Slot,
+    id: u64,
+    rate: &mut Rate,
+    kept: &mut u64,
+) -> u32
+    ensures { Asks slot.old.handle.value slot.new.handle.value (Chunk id) result kept.old kept.new rate.old rate.new
+        ShowsRate }
+{
+    let Some(desk) = take(alloc, slot) else {
+        return NO_GRAPH;
+    };
+    let code = tell_chunk_rate(&desk, id, rate, kept);
     put(slot, desk);
     code
 }
@@ -305,6 +331,30 @@ pub extern "C" fn txgraph_sums(
     *live = tell_rate(&desk, id, rate);
     put(slot, desk);
     DONE
+}
+
+/// What `txgraph_mine` would be refused for with these transactions, other than for want of memory. Nothing is mined.
+///
+/// # Errors
+///
+/// - 1: the slot has no graph. 34: the list is empty.
+/// - 13 staging: one is open. 14 twice, with the first transaction that is listed a second time. 10 unknown, with the first that main
+///   hasn't. 15 parent, with the first that has an ancestor which isn't listed.
+#[unsafe(no_mangle)]
+pub extern "C" fn txgraph_minable(
+    alloc: Global,
+    slot: &mut Slot,
+    ids: &[u64],
+    kept: &mut u64,
+) -> u32
+    ensures { MayMine slot.old.handle.value slot.new.handle.value ids.now result kept.old kept.new }
+{
+    let Some(mut desk) = take(alloc, slot) else {
+        return NO_GRAPH;
+    };
+    let code = tell_minable(&mut desk, ids, kept);
+    put(slot, desk);
+    code
 }
 
 /// Fills a block of main of at most so many virtual bytes: tells its fee and size, and picks its transactions in their order: see

@@ -1,18 +1,19 @@
 //! Questions to a desk's graph.
-ghost use Rattle.std.specs.Prelude.{◌≡◌, ◌↔◌, ◌+◌, ◌-◌, ℕ, List, length, drop, min, IsTrue};
+ghost use Rattle.std.specs.Prelude.{◌≡◌, ◌↔◌, ◌⊎◌, ◌+◌, ◌-◌, ℕ, List, [], length, drop, min, IsTrue};
 ghost use Rattle.graph_model.specs.Commands.{Before, Chunk, Compare, Count};
 ghost use Rattle.graph_model.specs.Replies.{Number};
 ghost use Rattle.reorg.specs.Kept.{MakesStep};
 ghost use Rattle.txgraph_c.specs.Calls.{Answers, GivesPiece, ShowsPart, ShowsPlace, ShowsVerdict, Tells, TellsRate, TellsThere, TellsOversized};
+ghost use Rattle.txgraph_c.specs.Facts.{Judges, ShowsRate, TellsLeast, TellsLimits, TellsStaged};
 ghost use Rattle.txgraph_c.specs.Finds.{ShowsIds};
 ghost use Rattle.txgraph_c.specs.Requests.{search_command};
 
-use crate::codes::DONE;
+use crate::codes::{DONE, NO_NAMES};
 use crate::copying::{hand_out, hand_piece};
 use crate::desk::Desk;
 use crate::request::Search;
 use crate::telling::{Rate, number_of_place, number_of_verdict, refuse, tell};
-use graph_model::{Level, TxId};
+use graph_model::{Level, Limits, TxId};
 
 /// How staging stands to main.
 pub(crate) fn tell_verdict(desk: &Desk, verdict: &mut u32, kept: &mut u64) -> u32
@@ -67,6 +68,33 @@ pub(crate) fn tell_chunk(
     }
 }
 
+/// The fee and the size of the chunk of main's order that has a transaction.
+pub(crate) fn tell_chunk_rate(desk: &Desk, id: TxId, rate: &mut Rate, kept: &mut u64) -> u32
+    ensures { Answers desk.now desk.now (Chunk id) result kept.new (ShowsRate rate.old rate.new) }
+{
+    match desk.pool.graph().main_chunk_rate(id) {
+        Ok(found) => {
+            rate.fee = found.fee;
+            rate.size = found.size;
+            *kept = 0;
+            DONE
+        }
+        Err(why) => refuse(why, kept),
+    }
+}
+
+/// What mining these transactions would be refused for.
+pub(crate) fn tell_minable(desk: &mut Desk, ids: &[TxId], kept: &mut u64) -> u32
+    ensures { ((ids.now ≡ []) × (result ≡ 34) × (desk.new ≡ desk.old) × (kept.new ≡ kept.old))
+        ⊎ Judges desk.old desk.new ids.now result kept.new }
+{
+    if ids.is_empty() {
+        return NO_NAMES;
+    }
+    let outcome = desk.pool.minable(ids);
+    tell(outcome, kept)
+}
+
 /// Transactions of a transaction's cluster.
 pub(crate) fn tell_found(
     desk: &mut Desk,
@@ -100,6 +128,27 @@ pub(crate) fn is_oversized(desk: &Desk, level: Level) -> bool
     ensures { TellsOversized desk.now level result }
 {
     desk.pool.graph().oversized(level)
+}
+
+/// The limits in force.
+pub(crate) fn limits_of(desk: &Desk) -> Limits
+    ensures { TellsLimits desk.now result }
+{
+    desk.pool.graph().limits()
+}
+
+/// Whether a staging is open.
+pub(crate) fn is_staged(desk: &Desk) -> bool
+    ensures { TellsStaged desk.now result }
+{
+    desk.pool.graph().staged()
+}
+
+/// A size that no transaction of main is below.
+pub(crate) fn least_size(desk: &Desk) -> u64
+    ensures { TellsLeast desk.now result }
+{
+    desk.pool.graph().least()
 }
 
 /// The fee and the size of a transaction, and whether it is live. Where it isn't, `rate` stays.
