@@ -41,9 +41,35 @@ int main(void) {
     CHECK(txgraph_add(&slot, 3, 10, 500000, &kept, &steps) == TXGRAPH_CLUSTER_SIZE && kept == 500000);
     CHECK(txgraph_set_limits(&slot, 64, 404000, 1048576, false, &kept, &steps) == TXGRAPH_LATE);
 
+    /* how the graph stands */
+    uint64_t most = 0, size = 0, live = 0, added = 0, least = 0;
+    bool defer = true, staged = true;
+    CHECK(txgraph_limits(&slot, &most, &size, &live, &defer) == TXGRAPH_DONE && most == 64 && size == 404000 && live == 1048576 && !defer);
+    CHECK(txgraph_staged(&slot, &staged) == TXGRAPH_DONE && !staged);
+    CHECK(txgraph_additions(&slot, &added) == TXGRAPH_DONE && added == 2);
+    CHECK(txgraph_least(&slot, &least) == TXGRAPH_DONE && least <= 10);
+
+    /* the chunk of both, and what could be mined */
+    txgraph_rate rate = {0, 0};
+    CHECK(txgraph_main_chunk_rate(&slot, 2, &rate, &kept) == TXGRAPH_DONE && rate.fee == 40 && rate.size == 20 && kept == 0);
+    CHECK(txgraph_main_chunk_rate(&slot, 7, &rate, &kept) == TXGRAPH_UNKNOWN && rate.fee == 40 && kept == 7);
+    ids[0] = 2;
+    CHECK(txgraph_minable(&slot, ids, 1, &kept) == TXGRAPH_PARENT && kept == 2);
+    CHECK(txgraph_minable(&slot, ids, 0, &kept) == TXGRAPH_NO_NAMES);
+    ids[1] = 1;
+    CHECK(txgraph_minable(&slot, ids, 2, &kept) == TXGRAPH_DONE && kept == 0);
+    ids[0] = ids[1] = 9;
+
     /* parent and child are not exchanged */
     CHECK(txgraph_ancestors(&slot, TXGRAPH_MAIN, 2, ids, 4, &count, &kept) == TXGRAPH_DONE && count == 2 && ids[0] == 1 && ids[1] == 2);
     CHECK(txgraph_ancestors(&slot, TXGRAPH_MAIN, 1, ids, 4, &count, &kept) == TXGRAPH_DONE && count == 1 && ids[0] == 1 && ids[1] == 2);
+
+    /* several together: one that stands twice, and one that isn't there */
+    const uint64_t some[] = {2, 7, 2};
+    CHECK(txgraph_ancestors_union(&slot, TXGRAPH_MAIN, some, 3, ids, 4, &count) == TXGRAPH_DONE && count == 2 && ids[0] == 1 && ids[1] == 2);
+    CHECK(txgraph_descendants_union(&slot, TXGRAPH_MAIN, some, 3, ids, 4, &count) == TXGRAPH_DONE && count == 1 && ids[0] == 2 && ids[1] == 2);
+    CHECK(txgraph_count_distinct_clusters(&slot, TXGRAPH_MAIN, some, 3, &count) == TXGRAPH_DONE && count == 1);
+    ids[0] = 1;
 
     /* a short array gets the first ones, and the number of all */
     ids[1] = 9;
