@@ -9,6 +9,7 @@ use Rattle.chunk_index.specs.declared.entry.Tag.{Tag}
 use Rattle.chunk_index.specs.declared.entry.Tag.TheVariants.{Both, MainOnly, TopOnly}
 use Rattle.chunk_index.specs.Items.{is_in, same_tag}
 use Rattle.cluster_store.specs.Stores.{Numbered, Shown, Store, Stored, part_at, parts_of_level, passes, places_by, shown_at, shown_only}
+use Rattle.comparison.proofs.Merging.{rates_shown}
 use Rattle.levels.specs.Orders.{AreApart, sums_of}
 
 -- Entries that pass a test, each marked: of these the ones whose mark passes another are the entries that pass both.
@@ -39,10 +40,6 @@ test_at test clusters place = passes test (finmap.get clusters place.0)
 shown_parts : (clusters : Numbered) (places : List (ℕ × ℕ)) → map (λ (s : Shown). s.part) (map (shown_at clusters) places) ≡ map (part_at clusters) places
 shown_parts clusters [] = refl
 shown_parts clusters (place ∷ places) = ap (λ (ps : List Part). part_at clusters place ∷ ps) (shown_parts clusters places)
-
-shown_rates : (shown : List Shown) → map (λ (s : Shown). s.part.rate) shown ≡ sums_of (map (λ (s : Shown). s.part) shown)
-shown_rates [] = refl
-shown_rates (s ∷ shown) = ap (λ rest. s.part.rate ∷ rest) (shown_rates shown)
 
 unmarked : {X Y : Type 0} (mark : X → Bool) (f : X → Y) (xs : List X) → map f xs ≡ map (λ (m : Bool × Y). m.1) (map (λ x. (mark x, f x)) xs)
 unmarked mark f [] = refl
@@ -117,4 +114,4 @@ are_apart store = record {
 
 pub alone_rates : (tag : Tag) (store : Store)
     → map (λ (s : Shown). s.part.rate) (shown_only tag store) ≡ sums_of (map (λ (s : Shown). s.part) (shown_only tag store))
-alone_rates tag store = shown_rates (shown_only tag store)
+alone_rates tag store = rates_shown (shown_only tag store)

@@ -35,10 +35,6 @@ use Rattle.levels.proofs.Graphs.{in_above, in_live, live_in, names_of_above}
 use Rattle.levels.proofs.Members.{all_names, in_option, of_seen}
 use Rattle.levels.proofs.Seen.{seen_is_stored}
 
-pub none_left : (xs : List ℕ) → length xs ≡ 0 → xs ≡ []
-none_left [] e = refl
-none_left (x ∷ xs) e = absurd (omega (arith, e))
-
 -- ---- names that stand side by side, cut between two clusters
 
 pub record IsCut (numbers : Numbers) (ids done left : List ℕ) : Type 0 where

@@ -155,9 +155,6 @@ module _ (order : List ℕ) (once : AreDistinct order) (a b : ℕ) where
   pub less_is : StandsBefore order a b → Less ≡ nat_cmp (place_in order a) (place_in order b)
   less_is stands = nat_cmp_is (place_in order a) (place_in order b) Less (place_less order once a b stands)
 
-  pub same_is : a ≡ b → Equal ≡ nat_cmp (place_in order a) (place_in order b)
-  same_is same = nat_cmp_is (place_in order a) (place_in order b) Equal (ap (place_in order) same)
-
   pub more_is : StandsBefore order b a → Greater ≡ nat_cmp (place_in order a) (place_in order b)
   more_is stands = nat_cmp_is (place_in order a) (place_in order b) Greater (place_less order once b a stands)
 

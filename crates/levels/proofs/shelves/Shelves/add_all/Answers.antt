@@ -1,10 +1,11 @@
 -- Those of one cluster more are put behind the others: there is room for those of each cluster that is left.
 use Rattle.std.proofs.Common.{rules, ◌≡◌, ◌<◌, ◌≤◌, ◌+◌, length, option_to_list, refl, sym, ap, subst, ◌∙◌, arith}
 use Rattle.graphs.specs.Unions.{IsKinOfSome, PutsBehind}
+use Rattle.cluster_store.proofs.Done.{no_items}
 use Rattle.levels.specs.Shelves.{IsInOrder, Shelf, numbers_at, view_of}
 use Rattle.levels.specs.Unions.{AreGrouped, IsFirstRun, names_under}
 use Rattle.levels.specs.Views.{graph_of}
-use Rattle.levels.proofs.Kins.{adding_all, adding_next, adding_none, none_left, run_again, run_fits}
+use Rattle.levels.proofs.Kins.{adding_all, adding_next, adding_none, run_again, run_fits}
 use Rattle.levels.proofs.shelves.Shelves.add_all.Goals as goal
 
 pub loop-left-init : goal.loop-left-init
@@ -65,7 +66,7 @@ pub returns-clause-adds : goal.returns-clause-adds
 returns-clause-adds g c =
     let none : length c.loop-left.left.now ≡ 0 = search rules in
     adding_all c.args.kin c.args.level c.args.self.now c.args.ids.now c.loop-left.left.now c.loop-left.out.ids c.loop-left.out.room
-    (none_left c.loop-left.left.now none)
+    (no_items c.loop-left.left.now none)
     c.loop-left.invariant.way
 
 pub returns-clause-same : goal.returns-clause-same

@@ -1,6 +1,7 @@
 -- One cluster more is counted, with its names: together they have no more than the level.
-use Rattle.std.proofs.Common.{◌+◌, arith}
-use Rattle.levels.proofs.Kins.{measured_few, measured_next, measured_none}
+use Rattle.std.proofs.Common.{rules, ◌≡◌, ◌+◌, length, arith}
+use Rattle.cluster_store.proofs.Done.{no_items}
+use Rattle.levels.proofs.Kins.{measured_all, measured_few, measured_next, measured_none}
 use Rattle.levels.proofs.shelves.Shelves.measure.Goals as goal
 
 pub loop-left-init : goal.loop-left-init
@@ -31,3 +32,9 @@ loop-left-preserved g c =
           c.loop-left.names c.loop-left.invariant.way c.first_run-run.ensures c.sizes-one.result.0 c.sizes-one.result.1 c.sizes-one.ensures.one
           c.sizes-one.ensures.many;
     }
+
+pub returns : goal.returns
+returns g c =
+    let none : length c.loop-left.left.now ≡ 0 = search rules in
+    measured_all c.args.level c.args.self.now c.args.ids.now c.loop-left.left.now c.loop-left.clusters c.loop-left.names
+    (no_items c.loop-left.left.now none) c.loop-left.invariant.way
