@@ -7,12 +7,20 @@ def text(lines):
 
 
 def usual(count):
-    """Transactions in groups of usual sizes, most of one or two, the largest of 64: number, fee, size, and parents of which none is above another."""
+    """Transactions in groups of usual sizes, most of one or two, the largest of 64: see grouped."""
+    def target(drawn):
+        x = drawn.random()
+        return 1 if x < 0.6 else 2 if x < 0.8 else drawn.randint(3, 12) if x < 0.97 else drawn.randint(13, 64)
+
+    return grouped(count, target)
+
+
+def grouped(count, target_of):
+    """Transactions in groups of drawn sizes: number, fee, size, and parents of which none is above another."""
     drawn, groups = random.Random(1), []
     for k in range(1, count + 1):
-        if len(groups) < min(1000, count // 10):
-            x = drawn.random()
-            groups.append((1 if x < 0.6 else 2 if x < 0.8 else drawn.randint(3, 12) if x < 0.97 else drawn.randint(13, 64), [], []))
+        if len(groups) < max(1, min(1000, count // 10)):
+            groups.append((target_of(drawn), [], []))
         at = drawn.randrange(len(groups))
         target, members, ends = groups[at]
         parents = []
