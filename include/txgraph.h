@@ -12,8 +12,9 @@
  *
  *  - Zero a slot before its first use (TXGRAPH_EMPTY). Never copy a slot that has a graph, and never touch its fields. You may move it, if
  *    you zero the place that it left.
- *  - One call at a time for each slot, all from the thread that made the graph: that a graph may go to another thread isn't proved yet. Calls on
- *    different slots may run side by side.
+ *  - One call at a time for each slot, all from the thread that made the graph. That a graph may go to another thread isn't proved: the search for a
+ *    proof of all that a graph owns, the index's trees among it, passes the prover's limit of 1,000,000 steps. Calls on different slots may run
+ *    side by side.
  *  - No pointer is null, not even one to an array of length 0, and no two pointers of a call lead to the same memory.
  *  - No call from a signal handler, or in a child that a process with threads forked.
  *
@@ -201,6 +202,13 @@ uint32_t txgraph_chunk(txgraph_slot *slot, uint64_t id, txgraph_rate *rate, uint
 /* The fee and the size of the chunk of main's order that has a transaction. Answers UNKNOWN, OVERSIZED. */
 uint32_t txgraph_main_chunk_rate(txgraph_slot *slot, uint64_t id, txgraph_rate *rate, uint64_t *kept);
 
+/* The last chunk of main's order, which pays least, and which txgraph_evict would drop: told as txgraph_chunk tells one. Answers EMPTY_MAIN,
+ * OVERSIZED. */
+uint32_t txgraph_worst(txgraph_slot *slot, txgraph_rate *rate, uint64_t *ids, size_t ids_len, size_t *count, uint64_t *kept);
+
+/* Puts transactions into main's order; those that main hasn't come last. One may be listed twice. Answers OVERSIZED, and then the list stays. */
+uint32_t txgraph_sort_by_main_order(txgraph_slot *slot, uint64_t *ids, size_t ids_len);
+
 /* The transactions of a transaction's cluster, its ancestors, or its descendants, itself among them, in rising order: as many as the array has
  * room for, and in *count how many there are, at most TXGRAPH_MOST. Answer UNKNOWN, OVERSIZED. */
 uint32_t txgraph_cluster(txgraph_slot *slot, uint32_t level, uint64_t id, uint64_t *ids, size_t ids_len, size_t *count, uint64_t *kept);
@@ -208,6 +216,10 @@ uint32_t txgraph_ancestors(txgraph_slot *slot, uint32_t level, uint64_t id, uint
                            uint64_t *kept);
 uint32_t txgraph_descendants(txgraph_slot *slot, uint32_t level, uint64_t id, uint64_t *ids, size_t ids_len, size_t *count,
                              uint64_t *kept);
+
+/* The parents of a transaction with no third transaction between, as they stand in the level's order: as many as the array has room for, and in
+ * *count how many there are, at most TXGRAPH_MOST - 1. Answers UNKNOWN, OVERSIZED, MEMORY. */
+uint32_t txgraph_covers(txgraph_slot *slot, uint32_t level, uint64_t id, uint64_t *ids, size_t ids_len, size_t *count, uint64_t *kept);
 
 /* The ancestors, or the descendants, of several transactions in a level together, themselves among them, in rising order: as many as the array
  * has room for, and in *count how many there are. One that the level hasn't is passed over, and one may be listed twice. The level may be
@@ -245,6 +257,9 @@ uint32_t txgraph_additions(txgraph_slot *slot, uint64_t *count);
 /* A size that no transaction of main is below, and no chunk of main's order. */
 uint32_t txgraph_least(txgraph_slot *slot, uint64_t *size);
 
+/* How many mined blocks can be taken back, at most 100, and how many transactions the latest of them has; 0 where there is none. */
+uint32_t txgraph_blocks(txgraph_slot *slot, size_t *count, size_t *latest);
+
 /* What txgraph_mine would be refused for with these transactions, other than want of memory; DONE where for nothing. Nothing is mined. Answers
  * NO_NAMES, STAGING, TWICE, UNKNOWN, PARENT. */
 uint32_t txgraph_minable(txgraph_slot *slot, const uint64_t *ids, size_t ids_len, uint64_t *kept);
@@ -266,6 +281,27 @@ uint32_t txgraph_order(txgraph_slot *slot, uint32_t level, uint64_t *kept);
 uint32_t txgraph_parts(txgraph_slot *slot, size_t from, txgraph_part *parts, size_t parts_len, size_t *count);
 uint32_t txgraph_part_ids(txgraph_slot *slot, size_t from, uint64_t *ids, size_t ids_len, size_t *count);
 uint32_t txgraph_flows(txgraph_slot *slot, size_t from, txgraph_flow *flows, size_t flows_len, size_t *count);
+
+/* Reads a number for each chunk of main's order, in the order: two chunks have one number exactly where they are of one cluster. So who fills a
+ * block passes over the later chunks of a cluster of which one was left out. Answers OVERSIZED, MEMORY. */
+uint32_t txgraph_numbered(txgraph_slot *slot, uint64_t *kept);
+uint32_t txgraph_numbers(txgraph_slot *slot, size_t from, size_t *numbers, size_t numbers_len, size_t *count);
+
+/* Reads the two sides of a replacement: the chunks of main's order that staging hasn't, and those of staging's order that main hasn't, each in its
+ * level's order. All other chunks are the same in both. Answers NO_STAGING, OVERSIZED, MEMORY. */
+uint32_t txgraph_main_staging_diagrams(txgraph_slot *slot, uint64_t *kept);
+uint32_t txgraph_main_side(txgraph_slot *slot, size_t from, txgraph_rate *rates, size_t rates_len, size_t *count);
+uint32_t txgraph_staging_side(txgraph_slot *slot, size_t from, txgraph_rate *rates, size_t rates_len, size_t *count);
+
+/* Reads the transactions of a level, in rising order. The level may be oversized. Answers MEMORY. */
+uint32_t txgraph_names(txgraph_slot *slot, uint32_t level, uint64_t *kept);
+uint32_t txgraph_ids(txgraph_slot *slot, size_t from, uint64_t *ids, size_t ids_len, size_t *count);
+
+/* Reads the clusters of a level, in no order: how many transactions each has, and their transactions, of one cluster after the other. The level may
+ * be oversized. Answers MEMORY. */
+uint32_t txgraph_clusters(txgraph_slot *slot, uint32_t level, uint64_t *kept);
+uint32_t txgraph_cluster_counts(txgraph_slot *slot, size_t from, size_t *counts, size_t counts_len, size_t *count);
+uint32_t txgraph_cluster_ids(txgraph_slot *slot, size_t from, uint64_t *ids, size_t ids_len, size_t *count);
 
 /* Reads the corners of a level's feerate diagram, from size 0 on: each a size, and the most that a closed set of that size pays. Answers
  * OVERSIZED, MEMORY. */

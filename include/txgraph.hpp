@@ -8,6 +8,7 @@
 #include <cstdint>
 #include <optional>
 #include <span>
+#include <unordered_set>
 #include <utility>
 #include <vector>
 
@@ -62,6 +63,63 @@ struct Order {
     std::vector<Part> parts;
     std::vector<Id> ids;
     std::vector<Flow> flows;
+};
+
+// The two sides of a replacement: the chunks that main alone has, and those that staging alone has.
+struct Sides {
+    std::vector<Rate> main;
+    std::vector<Rate> staging;
+};
+
+// Clusters, in no order: how many transactions each has, and their transactions, of one cluster after the other.
+struct Clusters {
+    std::vector<std::size_t> counts;
+    std::vector<Id> ids;
+};
+
+// How many mined blocks can be taken back, and how many transactions the latest has.
+struct Blocks {
+    std::size_t count = 0;
+    std::size_t latest = 0;
+};
+
+// The chunks of main's order one by one, as they were when it was made, for a block that is filled chunk by chunk. A chunk that is skipped takes
+// the later chunks of its cluster with it, so that what is included has all its ancestors.
+class Builder {
+public:
+    struct Offer {
+        Part part;
+        std::span<const Id> ids;
+    };
+
+    Builder(Order order, std::vector<std::size_t> numbers) : order_(std::move(order)), numbers_(std::move(numbers)) {}
+
+    // The next chunk, or none behind the last one.
+    [[nodiscard]] std::optional<Offer> current() const {
+        if (at_ == order_.parts.size()) return std::nullopt;
+        return Offer{order_.parts[at_], std::span(order_.ids).subspan(from_, order_.parts[at_].ids)};
+    }
+    void include() {
+        pass();
+        while (at_ < numbers_.size() && skipped_.contains(numbers_[at_])) pass();
+    }
+    void skip() {
+        if (at_ < numbers_.size()) skipped_.insert(numbers_[at_]);
+        include();
+    }
+
+private:
+    void pass() {
+        if (at_ == order_.parts.size()) return;
+        from_ += order_.parts[at_].ids;
+        at_++;
+    }
+
+    Order order_;
+    std::vector<std::size_t> numbers_;
+    std::unordered_set<std::size_t> skipped_;
+    std::size_t at_ = 0;
+    std::size_t from_ = 0;
 };
 
 // Whether the bytes are the text of a certificate.
@@ -172,9 +230,20 @@ public:
         if (!is_done(txgraph_main_chunk_rate(&slot_, id, &rate, &kept_))) return std::nullopt;
         return rate;
     }
+    std::optional<Chunk> worst() {
+        Chunk found;
+        if (!is_done(txgraph_worst(&slot_, &found.rate, found.names.ids_.data(), TXGRAPH_MOST, &found.names.count_, &kept_)))
+            return std::nullopt;
+        return found;
+    }
+    bool sort_by_main_order(std::span<Id> ids) {
+        Id none = 0;
+        return is_done(txgraph_sort_by_main_order(&slot_, ids.empty() ? &none : ids.data(), ids.size()));
+    }
     std::optional<Names> cluster(Level level, Id id) { return look(txgraph_cluster, level, id); }
     std::optional<Names> ancestors(Level level, Id id) { return look(txgraph_ancestors, level, id); }
     std::optional<Names> descendants(Level level, Id id) { return look(txgraph_descendants, level, id); }
+    std::optional<Names> covers(Level level, Id id) { return look(txgraph_covers, level, id); }
 
     std::optional<std::vector<Id>> ancestors_union(Level level, std::span<const Id> names) {
         return unite(txgraph_ancestors_union, level, names);
@@ -232,6 +301,11 @@ public:
         is_done(txgraph_least(&slot_, &size));
         return size;
     }
+    Blocks blocks() {
+        Blocks found;
+        is_done(txgraph_blocks(&slot_, &found.count, &found.latest));
+        return found;
+    }
     bool minable(std::span<const Id> ids) {
         const Id none = 0;
         return is_done(txgraph_minable(&slot_, ids.empty() ? &none : ids.data(), ids.size(), &kept_));
@@ -250,6 +324,23 @@ public:
     std::optional<Order> order(Level level) {
         if (!is_done(txgraph_order(&slot_, as_number(level), &kept_))) return std::nullopt;
         return Order{all<Part>(txgraph_parts), all<Id>(txgraph_part_ids), all<Flow>(txgraph_flows)};
+    }
+    std::optional<Builder> builder() {
+        auto found = order(Level::main);
+        if (!found || !is_done(txgraph_numbered(&slot_, &kept_))) return std::nullopt;
+        return Builder(std::move(*found), all<std::size_t>(txgraph_numbers));
+    }
+    std::optional<Sides> main_staging_diagrams() {
+        if (!is_done(txgraph_main_staging_diagrams(&slot_, &kept_))) return std::nullopt;
+        return Sides{all<Rate>(txgraph_main_side), all<Rate>(txgraph_staging_side)};
+    }
+    std::optional<std::vector<Id>> names(Level level) {
+        if (!is_done(txgraph_names(&slot_, as_number(level), &kept_))) return std::nullopt;
+        return all<Id>(txgraph_ids);
+    }
+    std::optional<Clusters> clusters(Level level) {
+        if (!is_done(txgraph_clusters(&slot_, as_number(level), &kept_))) return std::nullopt;
+        return Clusters{all<std::size_t>(txgraph_cluster_counts), all<Id>(txgraph_cluster_ids)};
     }
     std::optional<std::vector<Total>> diagram(Level level) {
         if (!is_done(txgraph_diagram(&slot_, as_number(level), &kept_))) return std::nullopt;

@@ -58,6 +58,10 @@ std::string told_of(Graph &graph, std::uint64_t names) {
     for (Id id = 0; id < names; id++) {
         if (const auto chunk = graph.chunk(id)) all += with_ids(std::to_string(chunk->rate.fee), chunk->names.ids());
     }
+    const auto limits = graph.limits();
+    all += std::to_string(limits.count) + ' ' + std::to_string(limits.size) + ' ' + std::to_string(limits.total) + (graph.staged() ? " staged\n" : "\n");
+    const auto blocks = graph.blocks();
+    all += std::to_string(graph.additions()) + ' ' + std::to_string(blocks.count) + ' ' + std::to_string(blocks.latest) + '\n';
     std::vector<Id> none;
     return all + make(graph, Command{Word::compare}, none);
 }

@@ -64,6 +64,11 @@ int main(void) {
     CHECK(txgraph_ancestors(&slot, TXGRAPH_MAIN, 2, ids, 4, &count, &kept) == TXGRAPH_DONE && count == 2 && ids[0] == 1 && ids[1] == 2);
     CHECK(txgraph_ancestors(&slot, TXGRAPH_MAIN, 1, ids, 4, &count, &kept) == TXGRAPH_DONE && count == 1 && ids[0] == 1 && ids[1] == 2);
 
+    /* the parents with nothing between, and a transaction that isn't there */
+    CHECK(txgraph_covers(&slot, TXGRAPH_MAIN, 2, ids, 4, &count, &kept) == TXGRAPH_DONE && count == 1 && ids[0] == 1 && ids[1] == 2);
+    CHECK(txgraph_covers(&slot, TXGRAPH_MAIN, 1, ids, 4, &count, &kept) == TXGRAPH_DONE && count == 0 && ids[0] == 1);
+    CHECK(txgraph_covers(&slot, TXGRAPH_MAIN, 7, ids, 4, &count, &kept) == TXGRAPH_UNKNOWN && count == 0 && kept == 7);
+
     /* several together: one that stands twice, and one that isn't there */
     const uint64_t some[] = {2, 7, 2};
     CHECK(txgraph_ancestors_union(&slot, TXGRAPH_MAIN, some, 3, ids, 4, &count) == TXGRAPH_DONE && count == 2 && ids[0] == 1 && ids[1] == 2);
@@ -90,6 +95,29 @@ int main(void) {
     CHECK(txgraph_picked(&slot, 1, ids, 1, &count) == TXGRAPH_DONE && count == 1 && ids[0] == 2);
     CHECK(txgraph_picked(&slot, 2, ids, 1, &count) == TXGRAPH_DONE && count == 0);
     CHECK(txgraph_picked(&slot, 99, ids, 1, &count) == TXGRAPH_DONE && count == 0);
+
+    /* the last chunk, the names, and the blocks that are left */
+    size_t latest = 9;
+    CHECK(txgraph_worst(&slot, &rate, ids, 4, &count, &kept) == TXGRAPH_DONE && count >= 1 && ids[count - 1] == 2);
+    CHECK(txgraph_names(&slot, TXGRAPH_MAIN, &kept) == TXGRAPH_DONE);
+    CHECK(txgraph_ids(&slot, 0, ids, 1, &count) == TXGRAPH_MORE && count == 1 && ids[0] == 1);
+    CHECK(txgraph_ids(&slot, 1, ids, 4, &count) == TXGRAPH_DONE && count == 1 && ids[0] == 2);
+    CHECK(txgraph_blocks(&slot, &count, &latest) == TXGRAPH_DONE && count == 0 && latest == 0);
+    size_t counts[2] = {9, 9};
+    CHECK(txgraph_clusters(&slot, TXGRAPH_TOP, &kept) == TXGRAPH_DONE);
+    CHECK(txgraph_cluster_counts(&slot, 0, counts, 2, &count) == TXGRAPH_DONE && count == 1 && counts[0] == 2 && counts[1] == 9);
+    CHECK(txgraph_cluster_ids(&slot, 0, ids, 4, &count) == TXGRAPH_DONE && count == 2 && ids[0] + ids[1] == 3);
+    uint64_t order[] = {5, 2, 1, 2};
+    CHECK(txgraph_sort_by_main_order(&slot, order, 4) == TXGRAPH_DONE);
+    CHECK(order[0] == 1 && order[1] == 2 && order[2] == 2 && order[3] == 5);
+
+    /* the two sides of a replacement */
+    CHECK(txgraph_main_staging_diagrams(&slot, &kept) == TXGRAPH_NO_STAGING);
+    CHECK(txgraph_stage(&slot, &kept, &steps) == TXGRAPH_DONE && txgraph_add(&slot, 7, 50, 10, &kept, &steps) == TXGRAPH_DONE);
+    CHECK(txgraph_main_staging_diagrams(&slot, &kept) == TXGRAPH_DONE);
+    CHECK(txgraph_main_side(&slot, 0, &rate, 1, &count) == TXGRAPH_DONE && count == 0);
+    CHECK(txgraph_staging_side(&slot, 0, &rate, 1, &count) == TXGRAPH_DONE && count == 1 && rate.fee == 50 && rate.size == 10);
+    CHECK(txgraph_abort(&slot, &kept, &steps) == TXGRAPH_DONE);
 
     /* the slot is moved, and used at its new place */
     txgraph_slot moved = slot;

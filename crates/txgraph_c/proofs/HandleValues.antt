@@ -1,5 +1,5 @@
 -- The machine values of a handle. Assumes `Logic`.
-use Rattle.std.proofs.Common.{◌≡◌, ℕ, List, [], ◌∷◌, ◌++◌, refl, sym, subst, lit<}
+use Rattle.std.proofs.Common.{◌≡◌, List, [], ◌∷◌, ◌++◌, refl, sym, subst, lit<}
 use mathlib.Core.Bool.{◌&&◌, true}
 use lib.Dec.{T}
 use seplogic.Ra.Ura.{Ura}
@@ -7,7 +7,6 @@ use mir.Val.{Val, vnull, vstruct, of_list, has_ty, WT}
 use types.Logic.{Logic}
 use types.Kit.{Item, Goal, Seq, Step, step, ‵, ◌$◌, move, drop, fsplit, fjoin, fpick, fpack, feq_i, feq_l}
 use denote.RattleType.{RattleType, Valss}
-use denote.Builtin.{RawPtr}
 use denote.RawPtr.{Ptr, ptr_val}
 use denote.Steps.{nothing}
 use denote.Param.{layout}
@@ -23,7 +22,7 @@ use Rattle.std_heap.proofs.Global.TheLaws as heap
 use Rattle.std_alloc.proofs.ResultValues.{and_tt}
 use Rattle.txgraph_c.proofs.Values.{both}
 use Rattle.txgraph_c.specs.Handles.{handle_owns}
-use Rattle.txgraph_c.specs.contracts.desk.Desk as Desk
+use Rattle.desk.specs.contracts.desk.Desk as Desk
 use Rattle.txgraph_c.specs.contracts.handle.Handle as Handle
 
 abbrev pub Z : RattleType

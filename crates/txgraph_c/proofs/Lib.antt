@@ -1,8 +1,3 @@
 pub mod Values
 pub mod HandleValues
-pub mod Lists
-pub mod CheckLemmas
-pub mod PoolLemmas
-pub mod CallLemmas
-pub mod FactLemmas
-pub mod UnionLemmas
+pub mod SlotLemmas

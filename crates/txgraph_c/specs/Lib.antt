@@ -1,13 +1,2 @@
 pub mod Handles
-pub mod Copies
-pub mod Numbers
-pub mod Verdicts
-pub mod Requests
-pub mod Pools
-pub mod Finds
-pub mod Desks
-pub mod Gatherings
-pub mod Loading
-pub mod Calls
-pub mod Facts
-pub mod Unions
+pub mod Slots

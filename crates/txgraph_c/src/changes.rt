@@ -1,17 +1,18 @@
 //! The calls that change a graph.
-ghost use Rattle.std.specs.Prelude.{◌≡◌};
+ghost use Rattle.std.specs.Prelude.{◌≡◌, ◌≤◌};
 ghost use Rattle.graph_model.specs.Limits.{bounds_of};
 ghost use Rattle.graph_model.specs.Commands.{Abort, Add, Commit, Dep, Evict, Remove, SetFee, SetLimits, Settle, Stage, Trim};
-ghost use Rattle.txgraph_c.specs.Calls.{Makes, Mines, ShowsTotal, ShowsVerdict, Steps, Unmines};
-ghost use Rattle.txgraph_c.specs.Desks.{limits_with};
-ghost use Rattle.txgraph_c.specs.Requests.{change_command};
+ghost use Rattle.txgraph_c.specs.Slots.{Makes, Mines, Steps, Unmines};
+ghost use Rattle.desk.specs.Calls.{ShowsTotal, ShowsVerdict};
+ghost use Rattle.desk.specs.Desks.{limits_with};
+ghost use Rattle.desk.specs.Requests.{change_command};
 
-use crate::changing::{make_change, make_mine, make_settlement};
-use crate::codes::NO_GRAPH;
-use crate::picking::{evict_last, take_back, trim_top};
-use crate::request::Change;
 use crate::slot::{Slot, put, take};
-use crate::telling::Total;
+use desk::changing::{make_change, make_mine, make_settlement};
+use desk::codes::NO_GRAPH;
+use desk::picking::{evict_last, take_back, trim_top};
+use desk::request::Change;
+use desk::telling::Total;
 use graph_model::Limits;
 use std::alloc::Global;
 use std::marker::Brand;
@@ -19,7 +20,8 @@ use std::sync::ledger::Blank;
 
 /// Makes a change of the graph in a slot.
 fn changed(alloc: Global, slot: &mut Slot, change: Change, kept: &mut u64, steps: &mut u64) -> u32
-    ensures { Steps slot.old.handle.value slot.new.handle.value (change_command change) result kept.old kept.new }
+    ensures answers { Steps slot.old.handle.value slot.new.handle.value (change_command change) result kept.old kept.new }
+    ensures rises { steps.old ≤ steps.new }
 {
     let Some(mut desk) = take(alloc, slot) else {
         return NO_GRAPH;
@@ -47,8 +49,9 @@ pub extern "C" fn txgraph_set_limits(
     kept: &mut u64,
     steps: &mut u64,
 ) -> u32
-    ensures { Steps slot.old.handle.value slot.new.handle.value (SetLimits (bounds_of (limits_with count size total defer)))
+    ensures answers { Steps slot.old.handle.value slot.new.handle.value (SetLimits (bounds_of (limits_with count size total defer)))
         result kept.old kept.new }
+    ensures rises { steps.old ≤ steps.new }
 {
     let limits = Limits {
         count,
@@ -77,7 +80,8 @@ pub extern "C" fn txgraph_add(
     kept: &mut u64,
     steps: &mut u64,
 ) -> u32
-    ensures { Steps slot.old.handle.value slot.new.handle.value (Add id fee size) result kept.old kept.new }
+    ensures answers { Steps slot.old.handle.value slot.new.handle.value (Add id fee size) result kept.old kept.new }
+    ensures rises { steps.old ≤ steps.new }
 {
     changed(alloc, slot, Change::Add(id, fee, size), kept, steps)
 }
@@ -99,7 +103,8 @@ pub extern "C" fn txgraph_dep(
     kept: &mut u64,
     steps: &mut u64,
 ) -> u32
-    ensures { Steps slot.old.handle.value slot.new.handle.value (Dep parent child) result kept.old kept.new }
+    ensures answers { Steps slot.old.handle.value slot.new.handle.value (Dep parent child) result kept.old kept.new }
+    ensures rises { steps.old ≤ steps.new }
 {
     changed(alloc, slot, Change::Dep(parent, child), kept, steps)
 }
@@ -119,7 +124,8 @@ pub extern "C" fn txgraph_fee(
     kept: &mut u64,
     steps: &mut u64,
 ) -> u32
-    ensures { Steps slot.old.handle.value slot.new.handle.value (SetFee id fee) result kept.old kept.new }
+    ensures answers { Steps slot.old.handle.value slot.new.handle.value (SetFee id fee) result kept.old kept.new }
+    ensures rises { steps.old ≤ steps.new }
 {
     changed(alloc, slot, Change::Fee(id, fee), kept, steps)
 }
@@ -138,7 +144,8 @@ pub extern "C" fn txgraph_remove(
     kept: &mut u64,
     steps: &mut u64,
 ) -> u32
-    ensures { Steps slot.old.handle.value slot.new.handle.value (Remove id) result kept.old kept.new }
+    ensures answers { Steps slot.old.handle.value slot.new.handle.value (Remove id) result kept.old kept.new }
+    ensures rises { steps.old ≤ steps.new }
 {
     changed(alloc, slot, Change::Remove(id), kept, steps)
 }
@@ -156,7 +163,8 @@ pub extern "C" fn txgraph_stage(
     kept: &mut u64,
     steps: &mut u64,
 ) -> u32
-    ensures { Steps slot.old.handle.value slot.new.handle.value Stage result kept.old kept.new }
+    ensures answers { Steps slot.old.handle.value slot.new.handle.value Stage result kept.old kept.new }
+    ensures rises { steps.old ≤ steps.new }
 {
     changed(alloc, slot, Change::Stage, kept, steps)
 }
@@ -174,7 +182,8 @@ pub extern "C" fn txgraph_commit(
     kept: &mut u64,
     steps: &mut u64,
 ) -> u32
-    ensures { Steps slot.old.handle.value slot.new.handle.value Commit result kept.old kept.new }
+    ensures answers { Steps slot.old.handle.value slot.new.handle.value Commit result kept.old kept.new }
+    ensures rises { steps.old ≤ steps.new }
 {
     changed(alloc, slot, Change::Commit, kept, steps)
 }
@@ -192,7 +201,8 @@ pub extern "C" fn txgraph_abort(
     kept: &mut u64,
     steps: &mut u64,
 ) -> u32
-    ensures { Steps slot.old.handle.value slot.new.handle.value Abort result kept.old kept.new }
+    ensures answers { Steps slot.old.handle.value slot.new.handle.value Abort result kept.old kept.new }
+    ensures rises { steps.old ≤ steps.new }
 {
     changed(alloc, slot, Change::Abort, kept, steps)
 }
@@ -213,7 +223,8 @@ pub extern "C" fn txgraph_mine(
     kept: &mut u64,
     steps: &mut u64,
 ) -> u32
-    ensures { Mines slot.old.handle.value slot.new.handle.value ids.now result kept.old kept.new }
+    ensures answers { Mines slot.old.handle.value slot.new.handle.value ids.now result kept.old kept.new }
+    ensures rises { steps.old ≤ steps.new }
 {
     let Some(mut desk) = take(alloc, slot) else {
         return NO_GRAPH;
@@ -238,7 +249,8 @@ pub extern "C" fn txgraph_unmine(
     kept: &mut u64,
     steps: &mut u64,
 ) -> u32
-    ensures { Unmines slot.old.handle.value slot.new.handle.value result kept.old kept.new }
+    ensures answers { Unmines slot.old.handle.value slot.new.handle.value result kept.old kept.new }
+    ensures rises { steps.old ≤ steps.new }
 {
     let Some(mut desk) = take(alloc, slot) else {
         return NO_GRAPH;
@@ -263,7 +275,8 @@ pub extern "C" fn txgraph_evict(
     kept: &mut u64,
     steps: &mut u64,
 ) -> u32
-    ensures { Makes slot.old.handle.value slot.new.handle.value Evict result kept.old kept.new total.old total.new ShowsTotal }
+    ensures answers { Makes slot.old.handle.value slot.new.handle.value Evict result kept.old kept.new total.old total.new ShowsTotal }
+    ensures rises { steps.old ≤ steps.new }
 {
     let Some(mut desk) = take(alloc, slot) else {
         return NO_GRAPH;
@@ -287,7 +300,8 @@ pub extern "C" fn txgraph_trim(
     kept: &mut u64,
     steps: &mut u64,
 ) -> u32
-    ensures { Makes slot.old.handle.value slot.new.handle.value Trim result kept.old kept.new total.old total.new ShowsTotal }
+    ensures answers { Makes slot.old.handle.value slot.new.handle.value Trim result kept.old kept.new total.old total.new ShowsTotal }
+    ensures rises { steps.old ≤ steps.new }
 {
     let Some(mut desk) = take(alloc, slot) else {
         return NO_GRAPH;

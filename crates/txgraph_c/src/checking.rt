@@ -1,29 +1,8 @@
 //! Whether a text in memory is a certificate.
-ghost use Rattle.std.specs.Prelude.{◌≡◌, ℕ, ◌^◌, ◌<◌, ◌≤◌, IfOk, length};
-ghost use Rattle.graph_model.specs.Lines.{max_input};
-ghost use Rattle.graph_model.specs.Texts.{HasTextTypes};
-ghost use Rattle.wire.specs.Drafts.{text_of, amount_of};
-ghost use Rattle.txgraph_c.specs.Verdicts.{Checks, IsSaidOf, IsVerified, code_of_verification, verification_of};
+ghost use Rattle.desk.specs.Verdicts.{Checks};
 
-use crate::codes::{
-    DONE, MEMORY, NO_FALLING, NO_FLOW, NO_GRAPH_TEXT, NO_ORDER, NO_SYNTAX, TOO_LONG,
-};
-use certificate::{CheckFault, check};
-use graph_model::MAX_INPUT;
-use outside::NoMemory;
+use desk::verifying::check_text;
 use std::alloc::Global;
-use wire::{CertText, TextFault, read_certificate};
-
-/// What is said of a text.
-#[derive(Clone, Copy)]
-pub(crate) enum Said {
-    Yes,
-    NoSyntax,
-    NoGraph,
-    NoOrder,
-    NoFalling,
-    NoFlow,
-}
 
 /// Whether the bytes are the text of a certificate: transactions, dependencies, and an order in chunks with the flows that show that no closed
 /// set pays more than their diagram. Needs no graph.
@@ -36,53 +15,5 @@ pub(crate) enum Said {
 pub extern "C" fn txgraph_check(alloc: Global, bytes: &[u8]) -> u32
     ensures { Checks bytes.now result }
 {
-    if bytes.len() > MAX_INPUT {
-        return TOO_LONG;
-    }
-    match verify(alloc, bytes) {
-        Ok(said) => code_of_said(said),
-        Err(_) => MEMORY,
-    }
-}
-
-/// What is to be said of the text that these bytes are.
-fn verify(alloc: Global, bytes: &[u8]) -> Result<Said, NoMemory>
-    requires { length bytes.now ≤ max_input }
-    ensures { IfOk result (λ said. IsVerified bytes.now (verification_of said)) }
-{
-    match read_certificate(alloc, bytes) {
-        Ok(text) => judge(alloc, &text),
-        Err(TextFault::Syntax) => Ok(Said::NoSyntax),
-        Err(TextFault::Memory) => Err(NoMemory),
-    }
-}
-
-/// What is to be said of a text.
-fn judge(alloc: Global, text: &CertText) -> Result<Said, NoMemory>
-    requires types { HasTextTypes (text_of text.now) }
-    requires amounts { amount_of (text_of text.now) < 2 ^ 127 }
-    ensures { IfOk result (IsSaidOf (text_of text.now)) }
-{
-    match check(alloc, &text.graph, text.parts.as_slice()) {
-        Ok(()) => Ok(Said::Yes),
-        Err(CheckFault::Graph) => Ok(Said::NoGraph),
-        Err(CheckFault::Order) => Ok(Said::NoOrder),
-        Err(CheckFault::Falling) => Ok(Said::NoFalling),
-        Err(CheckFault::Flow) => Ok(Said::NoFlow),
-        Err(CheckFault::Memory) => Err(NoMemory),
-    }
-}
-
-/// The number for what is said.
-fn code_of_said(said: Said) -> u32
-    ensures { result ≡ code_of_verification (verification_of said) }
-{
-    match said {
-        Said::Yes => DONE,
-        Said::NoSyntax => NO_SYNTAX,
-        Said::NoGraph => NO_GRAPH_TEXT,
-        Said::NoOrder => NO_ORDER,
-        Said::NoFalling => NO_FALLING,
-        Said::NoFlow => NO_FLOW,
-    }
+    check_text(alloc, bytes)
 }

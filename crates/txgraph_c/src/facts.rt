@@ -1,12 +1,13 @@
 //! The calls that tell how a graph stands. None is refused, and the graph stays as it is.
 ghost use Rattle.std.specs.Prelude.{◌≡◌};
-ghost use Rattle.txgraph_c.specs.Calls.{Knows, OfSlot};
-ghost use Rattle.txgraph_c.specs.Desks.{limits_with};
-ghost use Rattle.txgraph_c.specs.Facts.{TellsLeast, TellsLimits, TellsStaged};
+ghost use Rattle.txgraph_c.specs.Slots.{OfSlot};
+ghost use Rattle.desk.specs.Calls.{Knows};
+ghost use Rattle.desk.specs.Desks.{limits_with};
+ghost use Rattle.desk.specs.Facts.{TellsLeast, TellsLimits, TellsStaged};
 
-use crate::codes::{DONE, NO_GRAPH};
-use crate::reading::{is_staged, least_size, limits_of};
 use crate::slot::{Slot, put, take};
+use desk::codes::{DONE, NO_GRAPH};
+use desk::reading::{is_staged, least_size, limits_of};
 use std::alloc::Global;
 
 /// The limits in force: see `txgraph_set_limits`.

@@ -1,10 +1,10 @@
 //! A desk as a pointer that C can hold.
 ghost use Rattle.std.specs.Prelude.{◌≡◌, Option, Some, None, IsSome};
-ghost use Rattle.txgraph_c.specs.declared.desk.Desk.{Desk};
+ghost use Rattle.desk.specs.declared.desk.Desk.{Desk};
 ghost use Rattle.txgraph_c.specs.Handles.{handle_owns, desk_coded};
 
-use crate::desk::Desk;
 use crate::loose::Loose;
+use desk::desk::Desk;
 use std::alloc::Global;
 use std::marker::Model;
 

@@ -1,61 +1,17 @@
 //! The calls that read a whole level, and hand it out in pieces.
-ghost use Rattle.std.specs.Prelude.{◌≡◌, ◌⊎◌, ℕ};
+ghost use Rattle.std.specs.Prelude.{◌≡◌};
 ghost use Rattle.graph_model.specs.Commands as commands;
-ghost use Rattle.txgraph_c.specs.Calls.{Gathers, GivesPiece, LacksRoom, OfSlot, Reads, ShowsCorners, ShowsOrder, ShowsText};
-ghost use Rattle.txgraph_c.specs.Numbers.{level_named};
+ghost use Rattle.txgraph_c.specs.Slots.{OfSlot, Reads};
+ghost use Rattle.desk.specs.Calls.{Gathers, GivesPiece, ShowsCorners, ShowsOrder, ShowsText};
+ghost use Rattle.desk.specs.Numbers.{level_named};
 
-use crate::codes::{DONE, NO_GRAPH};
-use crate::copying::hand_piece;
-use crate::desk::Desk;
-use crate::listing::{FlowWords, PartHead};
 use crate::slot::{Slot, put, take};
-use crate::telling::{Total, named_level, refuse};
-use graph_model::Level;
+use desk::codes::NO_GRAPH;
+use desk::copying::hand_piece;
+use desk::keeping::{read_corners, read_order, read_text};
+use desk::listing::{FlowWords, PartHead};
+use desk::telling::{Total, named_level};
 use std::alloc::Global;
-
-/// Reads the order of a level.
-fn read_order(desk: &mut Desk, level: Level, kept: &mut u64) -> u32
-    ensures { LacksRoom desk.old desk.new result kept.new
-        ⊎ Gathers desk.old desk.new (commands.Order level) result kept.new ShowsOrder }
-{
-    match desk.pool.gather_order(level) {
-        Ok(list) => {
-            desk.held.listing = list;
-            *kept = 0;
-            DONE
-        }
-        Err(why) => refuse(why, kept),
-    }
-}
-
-/// Reads the corners of a level's diagram.
-fn read_corners(desk: &mut Desk, level: Level, kept: &mut u64) -> u32
-    ensures { LacksRoom desk.old desk.new result kept.new
-        ⊎ Gathers desk.old desk.new (commands.Diagram level) result kept.new ShowsCorners }
-{
-    match desk.pool.gather_corners(level) {
-        Ok(list) => {
-            desk.held.corners = list;
-            *kept = 0;
-            DONE
-        }
-        Err(why) => refuse(why, kept),
-    }
-}
-
-/// Reads the text of main.
-fn read_text(desk: &mut Desk, kept: &mut u64) -> u32
-    ensures { Gathers desk.old desk.new commands.Dump result kept.new ShowsText }
-{
-    match desk.pool.gather_text() {
-        Ok(text) => {
-            desk.held.text = text;
-            *kept = 0;
-            DONE
-        }
-        Err(why) => refuse(why, kept),
-    }
-}
 
 /// Reads the order of a level (0 main, 1 top): its chunks by falling feerate. It stays with the graph as it was then, until an order is read
 /// again, and is handed out in pieces: see `txgraph_parts`, `txgraph_part_ids`, `txgraph_flows`. Takes memory for all of it.

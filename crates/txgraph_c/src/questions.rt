@@ -3,21 +3,23 @@ ghost use Rattle.std.specs.Prelude.{◌≡◌};
 ghost use Rattle.graph_model.specs.Commands.{Ancestors, Before, Block, Chunk, Cluster, Compare, Count, Descendants};
 ghost use Rattle.graph_model.specs.Replies.{Number};
 ghost use Rattle.reorg.specs.Kept.{MakesStep};
-ghost use Rattle.txgraph_c.specs.Calls.{Asks, GivesPiece, Knows, Makes, OfSlot, ShowsPart, ShowsPlace, ShowsTotal, ShowsVerdict, Tells, TellsOversized, TellsRate, TellsThere};
-ghost use Rattle.txgraph_c.specs.Numbers.{level_named};
-ghost use Rattle.txgraph_c.specs.Facts.{MayMine, ShowsRate};
-ghost use Rattle.txgraph_c.specs.Finds.{ShowsIds};
-ghost use Rattle.txgraph_c.specs.Requests.{search_command};
+ghost use Rattle.txgraph_c.specs.Slots.{Asks, Makes, OfSlot, MayMine};
+ghost use Rattle.desk.specs.Calls.{GivesPiece, Knows, ShowsPart, ShowsPlace, ShowsTotal, ShowsVerdict, Tells, TellsOversized, TellsRate, TellsThere};
+ghost use Rattle.desk.specs.Numbers.{level_named};
+ghost use Rattle.desk.specs.Facts.{ShowsRate};
+ghost use Rattle.desk.specs.Finds.{ShowsIds};
+ghost use Rattle.desk.specs.Orders.{TellsCovers};
+ghost use Rattle.desk.specs.Requests.{search_command};
 
-use crate::codes::{DONE, NO_GRAPH};
-use crate::picking::fill_block;
-use crate::reading::{
-    give_picked, is_oversized, is_there, tell_chunk, tell_chunk_rate, tell_count, tell_found,
-    tell_minable, tell_place, tell_rate, tell_verdict,
-};
-use crate::request::Search;
 use crate::slot::{Slot, put, take};
-use crate::telling::{Rate, Total, named_level};
+use desk::codes::{DONE, NO_GRAPH};
+use desk::picking::fill_block;
+use desk::reading::{
+    give_picked, is_oversized, is_there, tell_chunk, tell_chunk_rate, tell_count, tell_covers,
+    tell_found, tell_minable, tell_place, tell_rate, tell_verdict,
+};
+use desk::request::Search;
+use desk::telling::{Rate, Total, named_level};
 use std::alloc::Global;
 
 /// How staging's feerate diagram stands to main's: 0 better, 1 worse, 2 equal, 3 incomparable.
@@ -236,6 +238,36 @@ pub extern "C" fn txgraph_descendants(
         count,
         kept,
     )
+}
+
+/// The parents of a transaction in a level (0 main, 1 top) with no third transaction between, as they stand in the level's order: as many as the
+/// array has room for, and how many there are, at most 127.
+///
+/// # Errors
+///
+/// - 1: the slot has no graph.
+/// - 10 unknown, with the name: the level hasn't the transaction. 19 oversized: the level is over the limits of a cluster. 18 memory: there is
+///   no memory.
+#[unsafe(no_mangle)]
+pub extern "C" fn txgraph_covers(
+    alloc: Global,
+    slot: &mut Slot,
+    level: u32,
+    id: u64,
+    ids: &mut [u64],
+    count: &mut usize,
+    kept: &mut u64,
+) -> u32
+    ensures { OfSlot slot.old.handle.value slot.new.handle.value result
+        ((kept.new ≡ kept.old) × (ids.new ≡ ids.old) × (count.new ≡ count.old))
+        (λ o n. (n ≡ o) × TellsCovers o (level_named level) id result kept.new ids.old ids.new count.old count.new) }
+{
+    let Some(desk) = take(alloc, slot) else {
+        return NO_GRAPH;
+    };
+    let code = tell_covers(alloc, &desk, named_level(level), id, ids, count, kept);
+    put(slot, desk);
+    code
 }
 
 /// How many transactions a level (0 main, 1 top) has.

@@ -1,9 +1,9 @@
 //! The slot that C owns.
 ghost use Rattle.std.specs.Prelude.{◌≡◌, Option, Some, None, MatchOption, is_some};
 
-use crate::desk::Desk;
 use crate::handle::Handle;
 use crate::loose::Loose;
+use desk::desk::Desk;
 use std::alloc::Global;
 use std::mem::replace;
 

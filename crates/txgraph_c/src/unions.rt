@@ -1,59 +1,17 @@
 //! The calls that ask what several transactions have together. The graph stays as it is.
-ghost use Rattle.std.specs.Prelude.{◌≡◌, length};
+ghost use Rattle.std.specs.Prelude.{◌≡◌};
 ghost use Rattle.graphs.specs.declared.names.Kin.TheVariants.{Ancestors, Descendants};
-ghost use Rattle.txgraph_c.specs.Calls.{OfSlot};
-ghost use Rattle.txgraph_c.specs.Copies.{copied};
-ghost use Rattle.txgraph_c.specs.Numbers.{level_named};
-ghost use Rattle.txgraph_c.specs.Unions.{CountsClusters, Unites};
+ghost use Rattle.txgraph_c.specs.Slots.{OfSlot};
+ghost use Rattle.desk.specs.Numbers.{level_named};
+ghost use Rattle.desk.specs.Unions.{CountsClusters, Unites};
 
-use crate::codes::{DONE, MEMORY, NO_GRAPH};
-use crate::copying::hand_out;
-use crate::desk::Desk;
 use crate::slot::{Slot, put, take};
-use crate::telling::named_level;
+use desk::codes::NO_GRAPH;
+use desk::reading::{tell_clusters, tell_kin};
+use desk::telling::named_level;
 use graph_model::{Level, TxId};
 use graphs::Kin;
 use std::alloc::Global;
-
-/// The ancestors of these transactions together, or their descendants.
-fn tell_kin(
-    desk: &mut Desk,
-    kin: Kin,
-    level: Level,
-    names: &[TxId],
-    ids: &mut [TxId],
-    count: &mut usize,
-) -> u32
-    ensures { Unites desk.old desk.new kin level names.now result ids.old ids.new count.old count.new }
-{
-    let Ok(found) = desk.pool.kin(kin, level, names) else {
-        return MEMORY;
-    };
-    show_ids(found.ids(), ids, count);
-    DONE
-}
-
-/// Copies what was found to an array, and tells how many there are.
-fn show_ids(found: &[TxId], ids: &mut [TxId], count: &mut usize)
-    ensures items { ids.new ≡ copied found.now ids.old }
-    ensures count { count.new ≡ length found.now }
-{
-    hand_out(found, ids);
-    *count = found.len();
-}
-
-/// How many clusters of a level these transactions lie in.
-fn tell_clusters(desk: &Desk, level: Level, ids: &[TxId], count: &mut usize) -> u32
-    ensures { CountsClusters desk.now level ids.now result count.old count.new }
-{
-    match desk.pool.count_clusters(level, ids) {
-        Ok(found) => {
-            *count = found;
-            DONE
-        }
-        Err(_) => MEMORY,
-    }
-}
 
 /// Looks for ancestors or descendants of the transactions in a slot's graph.
 fn united(

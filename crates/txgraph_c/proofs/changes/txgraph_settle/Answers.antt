@@ -1,7 +1,7 @@
 use Rattle.std.proofs.Common.{◌≡◌, Some, sym, ap, ◌∙◌}
 use Rattle.graph_model.specs.Commands.{Settle}
-use Rattle.txgraph_c.specs.Calls.{Answers, ShowsVerdict}
-use Rattle.txgraph_c.proofs.CallLemmas.{of_slot}
+use Rattle.desk.specs.Calls.{Answers, ShowsVerdict}
+use Rattle.txgraph_c.proofs.SlotLemmas.{of_slot}
 use Rattle.txgraph_c.proofs.changes.txgraph_settle.Goals as goal
 
 pub returns : goal.returns

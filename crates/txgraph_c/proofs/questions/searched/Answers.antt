@@ -1,8 +1,8 @@
 use Rattle.std.proofs.Common.{◌≡◌, Some, sym, ap, ◌∙◌}
-use Rattle.txgraph_c.specs.Finds.{ShowsIds}
-use Rattle.txgraph_c.specs.Requests.{search_command}
-use Rattle.txgraph_c.specs.Calls.{Tells}
-use Rattle.txgraph_c.proofs.CallLemmas.{of_slot}
+use Rattle.desk.specs.Finds.{ShowsIds}
+use Rattle.desk.specs.Requests.{search_command}
+use Rattle.desk.specs.Calls.{Tells}
+use Rattle.txgraph_c.proofs.SlotLemmas.{of_slot}
 use Rattle.txgraph_c.proofs.questions.searched.Goals as goal
 
 pub returns : goal.returns

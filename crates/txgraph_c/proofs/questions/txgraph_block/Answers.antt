@@ -1,7 +1,7 @@
 use Rattle.std.proofs.Common.{◌≡◌, Some, sym, ap, ◌∙◌}
 use Rattle.graph_model.specs.Commands.{Block}
-use Rattle.txgraph_c.specs.Calls.{Answers, ShowsTotal}
-use Rattle.txgraph_c.proofs.CallLemmas.{of_slot}
+use Rattle.desk.specs.Calls.{Answers, ShowsTotal}
+use Rattle.txgraph_c.proofs.SlotLemmas.{of_slot}
 use Rattle.txgraph_c.proofs.questions.txgraph_block.Goals as goal
 
 pub returns : goal.returns

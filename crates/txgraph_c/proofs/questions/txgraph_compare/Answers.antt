@@ -1,7 +1,7 @@
 use Rattle.std.proofs.Common.{◌≡◌, Some, refl, sym, ap, ◌∙◌}
 use Rattle.graph_model.specs.Commands.{Compare}
-use Rattle.txgraph_c.specs.Calls.{Tells, ShowsVerdict}
-use Rattle.txgraph_c.proofs.CallLemmas.{of_slot}
+use Rattle.desk.specs.Calls.{Tells, ShowsVerdict}
+use Rattle.txgraph_c.proofs.SlotLemmas.{of_slot}
 use Rattle.txgraph_c.proofs.questions.txgraph_compare.Goals as goal
 
 pub returns : goal.returns

@@ -3,9 +3,9 @@ use Rattle.graph_model.specs.Commands.{Count}
 use Rattle.graph_model.specs.Replies.{Number}
 use Rattle.graphs.specs.declared.names.Level.{Level}
 use Rattle.reorg.specs.Kept.{MakesStep}
-use Rattle.txgraph_c.specs.Numbers.{level_named}
-use Rattle.txgraph_c.specs.Calls.{Knows}
-use Rattle.txgraph_c.proofs.CallLemmas.{of_slot}
+use Rattle.desk.specs.Numbers.{level_named}
+use Rattle.desk.specs.Calls.{Knows}
+use Rattle.txgraph_c.proofs.SlotLemmas.{of_slot}
 use Rattle.txgraph_c.proofs.questions.txgraph_count.Goals as goal
 
 pub returns : goal.returns

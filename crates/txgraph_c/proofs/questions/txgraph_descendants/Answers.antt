@@ -1,8 +1,9 @@
 use Rattle.std.proofs.Common.{◌≡◌, subst}
 use Rattle.graphs.specs.declared.names.Level.{Level}
 use Rattle.graph_model.specs.Commands.{Descendants}
-use Rattle.txgraph_c.specs.Calls.{OfSlot, Tells}
-use Rattle.txgraph_c.specs.Finds.{ShowsIds}
+use Rattle.txgraph_c.specs.Slots.{OfSlot}
+use Rattle.desk.specs.Calls.{Tells}
+use Rattle.desk.specs.Finds.{ShowsIds}
 use Rattle.txgraph_c.proofs.questions.txgraph_descendants.Goals as goal
 
 pub returns : goal.returns

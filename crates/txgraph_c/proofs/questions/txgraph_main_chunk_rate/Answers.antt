@@ -1,8 +1,8 @@
 use Rattle.std.proofs.Common.{◌≡◌, Some, refl, sym, ap, ◌∙◌}
 use Rattle.graph_model.specs.Commands.{Chunk}
-use Rattle.txgraph_c.specs.Calls.{Tells}
-use Rattle.txgraph_c.specs.Facts.{ShowsRate}
-use Rattle.txgraph_c.proofs.CallLemmas.{of_slot}
+use Rattle.desk.specs.Calls.{Tells}
+use Rattle.desk.specs.Facts.{ShowsRate}
+use Rattle.txgraph_c.proofs.SlotLemmas.{of_slot}
 use Rattle.txgraph_c.proofs.questions.txgraph_main_chunk_rate.Goals as goal
 
 pub returns : goal.returns

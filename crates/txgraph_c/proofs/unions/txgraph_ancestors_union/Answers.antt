@@ -1,8 +1,8 @@
 use Rattle.std.proofs.Common.{◌≡◌, subst}
 use Rattle.graphs.specs.declared.names.Kin.TheVariants.{Ancestors}
 use Rattle.graphs.specs.declared.names.Level.{Level}
-use Rattle.txgraph_c.specs.Calls.{OfSlot}
-use Rattle.txgraph_c.specs.Unions.{Unites}
+use Rattle.txgraph_c.specs.Slots.{OfSlot}
+use Rattle.desk.specs.Unions.{Unites}
 use Rattle.txgraph_c.proofs.unions.txgraph_ancestors_union.Goals as goal
 
 pub returns : goal.returns

@@ -1,8 +1,8 @@
 use Rattle.std.proofs.Common.{◌≡◌, Some, refl, sym, ap, ◌∙◌, subst}
 use Rattle.graphs.specs.declared.names.Level.{Level}
-use Rattle.txgraph_c.specs.Numbers.{level_named}
-use Rattle.txgraph_c.specs.Unions.{CountsClusters}
-use Rattle.txgraph_c.proofs.CallLemmas.{of_slot}
+use Rattle.desk.specs.Numbers.{level_named}
+use Rattle.desk.specs.Unions.{CountsClusters}
+use Rattle.txgraph_c.proofs.SlotLemmas.{of_slot}
 use Rattle.txgraph_c.proofs.unions.txgraph_count_distinct_clusters.Goals as goal
 
 pub returns : goal.returns

@@ -4,8 +4,8 @@ use mir.Val.{Val, vnull}
 use base.Logic.{SProp, ent, emp, id⊢}
 use base.Fml.{ftrue}
 use prog.Wp.{WpFn}
-use types.Kit.{‵, raw, ◌⊛◌, ◌$◌, ◌∵◌, !, qed, by, move, keep, drop, split, fsplit, fjoin, suffices, use0}
-use types.Run.{of_opd, lit, no_more, and_then, returns, enter}
+use types.Kit.{‵, raw, ◌⊛◌, ◌$◌, ◌∵◌, !, qed, by, move, keep, split, fsplit, fjoin, suffices, use0}
+use types.Run.{lit, no_more, and_then, returns, enter}
 use types.ByLocal.{alloc_all, pass_all, free_all, look_at, get, sets}
 use types.Part.{agg}
 use contract.Monad.{fact, fact_i}
@@ -21,7 +21,6 @@ use Rattle.std.proofs.raw_atomic.Walks.{proved_at, leaves}
 use Rattle.std.specs.Prelude.{None}
 use Rattle.txgraph_c.proofs.Values.{both}
 use Rattle.txgraph_c.proofs.HandleValues.{Z, al, null_good, handle_in}
-use Rattle.txgraph_c.specs.contracts.desk.Desk as Desk
 use Rattle.txgraph_c.specs.contracts.handle.Handle as Handle
 use Rattle.txgraph_c.specs.contracts.handle.Handle.empty as F
 use Rattle.txgraph_c.specs.contracts.handle.Handle.empty.Key.{name as #self}

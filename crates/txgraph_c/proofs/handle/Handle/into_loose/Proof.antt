@@ -6,7 +6,7 @@ use base.Logic.{SProp, ent, emp, id⊢, never, fst∗}
 use base.Fml.{ftrue}
 use prog.Wp.{WpFn}
 use types.Logic.{sem}
-use types.Kit.{‵, raw, ◌⊛◌, ◌$◌, ◌∵◌, !, qed, by, move, keep, drop, split, fsplit, fjoin, suffices, use0, rewrite}
+use types.Kit.{‵, raw, ◌⊛◌, ◌$◌, ◌∵◌, !, qed, by, move, keep, split, fsplit, fjoin, suffices, use0, rewrite}
 use types.Run.{stop, fld, of_opd, no_more, and_then, returns, enter}
 use types.ByLocal.{alloc_all, pass_all, free_all, look_at, get, get_in, sets}
 use types.Part.{agg, sub, whole}
@@ -27,7 +27,7 @@ use Rattle.std_heap.proofs.Global.TheLaws as heap
 use Rattle.txgraph_c.proofs.Values.{both, loose_good, loose_in}
 use Rattle.txgraph_c.proofs.HandleValues.{Z, some_of, handle_out}
 use Rattle.txgraph_c.specs.Handles.{handle_owns}
-use Rattle.txgraph_c.specs.contracts.desk.Desk as Desk
+use Rattle.desk.specs.contracts.desk.Desk as Desk
 use Rattle.txgraph_c.specs.contracts.loose.Loose as Loose
 use Rattle.txgraph_c.specs.contracts.handle.Handle as Handle
 use Rattle.txgraph_c.specs.contracts.handle.Handle.into_loose as F

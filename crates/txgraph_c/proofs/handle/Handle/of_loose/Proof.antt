@@ -4,7 +4,7 @@ use mir.Val.{Val, vptr}
 use base.Logic.{SProp, ent, emp, id⊢}
 use base.Fml.{ftrue}
 use prog.Wp.{WpFn}
-use types.Kit.{‵, raw, ◌⊛◌, ◌$◌, ◌∵◌, !, qed, by, move, keep, drop, split, fsplit, fjoin, suffices, use0}
+use types.Kit.{‵, raw, ◌⊛◌, ◌$◌, ◌∵◌, !, qed, by, move, keep, split, fsplit, fjoin, suffices, use0}
 use types.Run.{stop, fld, of_opd, no_more, and_then, returns, enter}
 use types.ByLocal.{alloc_all, pass_all, free_all, look_at, get, get_in, sets}
 use types.Part.{agg, sub, whole}
@@ -22,7 +22,7 @@ use Rattle.std_heap.specs.contracts.GlobalAllocator.TheImpl.{ghosts}
 use Rattle.std_heap.proofs.Global.TheLaws as heap
 use Rattle.txgraph_c.proofs.Values.{both, loose_good, loose_out}
 use Rattle.txgraph_c.proofs.HandleValues.{Z, handle_in}
-use Rattle.txgraph_c.specs.contracts.desk.Desk as Desk
+use Rattle.desk.specs.contracts.desk.Desk as Desk
 use Rattle.txgraph_c.specs.contracts.loose.Loose as Loose
 use Rattle.txgraph_c.specs.contracts.handle.Handle as Handle
 use Rattle.txgraph_c.specs.contracts.handle.Handle.of_loose as F

@@ -1,0 +1,8 @@
+pub mod Lists
+pub mod CheckLemmas
+pub mod PoolLemmas
+pub mod CallLemmas
+pub mod FactLemmas
+pub mod UnionLemmas
+pub mod OrderLemmas
+pub mod ClusterLemmas

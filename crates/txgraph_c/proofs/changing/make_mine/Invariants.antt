@@ -1,5 +1,0 @@
--- The ledger is that of the blank that is handed over.
-use Rattle.txgraph_c.proofs.changing.make_mine.Given as goal
-
-abbrev pub ghosts-pay_mine : goal.ghosts-pay_mine
-ghosts-pay_mine a = record { name = a.blank.name; parts = a.blank.parts }

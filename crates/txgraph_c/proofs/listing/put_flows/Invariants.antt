@@ -1,7 +1,0 @@
--- the flows so far stand behind the others
-use Rattle.std.proofs.Common.{◌≡◌, ◌++◌, map, take}
-use Rattle.txgraph_c.specs.Copies.{flow_words}
-use Rattle.txgraph_c.proofs.listing.put_flows.Given as goal
-
-abbrev pub invariant-loop-flow : goal.invariant-loop-flow
-invariant-loop-flow l = l.list.items ≡ l.fn.list.items ++ map flow_words (take l.flow-index l.flows)

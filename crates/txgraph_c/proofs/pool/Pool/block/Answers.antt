@@ -1,8 +1,0 @@
-use Rattle.graph_model.specs.Commands.{Block}
-use Rattle.graph_model.specs.Replies.{built_reply}
-use Rattle.txgraph_c.proofs.PoolLemmas.{pool_reads}
-use Rattle.txgraph_c.proofs.pool.Pool.block.Goals as goal
-
-pub returns : goal.returns
-returns c =
-    pool_reads c.self.inside.graph c.self.inside.reorg c.args.self.now (Block c.args.size) (built_reply c.fill_block.result) tt c.self.view_is c.fill_block.ensures

@@ -1,8 +1,0 @@
-use Rattle.graph_model.specs.Commands.{Compare}
-use Rattle.tx_graph.specs.Readings.{compare_reply}
-use Rattle.txgraph_c.proofs.PoolLemmas.{pool_reads}
-use Rattle.txgraph_c.proofs.pool.Pool.compare.Goals as goal
-
-pub returns : goal.returns
-returns c =
-    pool_reads c.self.inside.graph c.self.inside.reorg c.args.self.now (Compare) (compare_reply c.compare.result) tt c.self.view_is c.compare.ensures.step
