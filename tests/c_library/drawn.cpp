@@ -40,8 +40,8 @@ bool clusters_agree(Graph &graph, Level level) {
 // Whether the readings of main agree with its order.
 bool agree(Graph &graph) {
     const auto names = graph.names(Level::main);
-    const auto order = graph.order(Level::main);
     if (!names || names->size() != graph.count(Level::main)) return false;
+    const auto order = graph.order(Level::main);
     if (!order) return graph.code() == TXGRAPH_OVERSIZED && !graph.worst() && !graph.builder();
     if (order->parts.empty()) return names->empty() && !graph.worst() && graph.code() == TXGRAPH_EMPTY_MAIN;
     for (std::size_t at = 0; at < names->size() && at < 50; at++)
