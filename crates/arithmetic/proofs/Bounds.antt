@@ -1,11 +1,7 @@
 -- Products of a fee and a size under the limits fit 128 bits.
-use Rattle.std.proofs.Common.{ℕ, ◌*◌, ◌^◌, ◌<◌, ◌≤◌, ℤ, pos, ◌*ℤ◌, unsigned_abs, FitsSigned}
-use Rattle.std.proofs.lemmas.Int.{fits_signed_mul, unsigned_abs-mul}
+use Rattle.std.proofs.Common.{ℕ, ◌*◌, ◌^◌, ◌<◌, ◌≤◌, ℤ, pos, ◌*ℤ◌, unsigned_abs}
+use Rattle.std.proofs.lemmas.Int.{unsigned_abs-mul}
 use Rattle.std.proofs.lemmas.Nat.{mul-le}
-use mir.Syntax.{w128}
-
-pub product_fits : (f : ℤ) (s : ℕ) (m n : ℕ) → unsigned_abs f ≤ m → s ≤ n → m * n < 2 ^ 127 → FitsSigned w128 (f *ℤ pos s)
-product_fits f s m n a b h = fits_signed_mul w128 f (pos s) m n a b h
 
 -- a product is at most the product of the bounds of its factors
 pub product_bound : (f : ℤ) (s : ℕ) (m n : ℕ) → unsigned_abs f ≤ m → s ≤ n → unsigned_abs (f *ℤ pos s) ≤ m * n

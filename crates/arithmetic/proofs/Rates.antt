@@ -4,8 +4,6 @@ use Rattle.std.proofs.lemmas.Int.{ints, by_lt_z}
 use Rattle.arithmetic.proofs.Products.{mul-add_left, mul-add_right, mul_swap_ℤ, scale_keeps, scale_keeps_strict, scale_reflects, scale_reflects_strict}
 
 -- ---- an order, total
-pub cross_refl : (f : ℤ) (s : ℕ) → (f *ℤ pos s) ≤ℤ (f *ℤ pos s)
-cross_refl f s = omega (arith, ints)
 
 pub cross_total : (f g : ℤ) (s t : ℕ) → ((f *ℤ pos t) ≤ℤ (g *ℤ pos s)) ⊎ ((g *ℤ pos s) <ℤ (f *ℤ pos t))
 cross_total f g s t = by_lt_z (g *ℤ pos s) (f *ℤ pos t) (λ less. inr less) (λ le. inl le)

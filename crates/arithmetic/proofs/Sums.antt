@@ -37,10 +37,6 @@ pub total-add : {A : Type 0} (f g : A → ℤ) (xs : List A) → total (λ x. f 
 total-add f g [] = refl
 total-add f g (x ∷ xs) = omega (arith, ints, total-add f g xs)
 
-pub total-neg : {A : Type 0} (f : A → ℤ) (xs : List A) → total (λ x. neg_ℤ (f x)) xs ≡ neg_ℤ (total f xs)
-total-neg f [] = refl
-total-neg f (x ∷ xs) = omega (arith, ints, total-neg f xs)
-
 pub total-sub : {A : Type 0} (f g : A → ℤ) (xs : List A) → total (λ x. f x -ℤ g x) xs ≡ total f xs -ℤ total g xs
 total-sub f g [] = refl
 total-sub f g (x ∷ xs) = omega (arith, ints, total-sub f g xs)
@@ -63,15 +59,6 @@ total_swap f (x ∷ xs) ys =
 pub total_same : {A : Type 0} (f g : A → ℤ) (xs : List A) → ((x : A) → f x ≡ g x) → total f xs ≡ total g xs
 total_same f g [] e = refl
 total_same f g (x ∷ xs) e = omega (arith, ints, e x, total_same f g xs e)
-
-pub total_keeps : {A : Type 0} (f g : A → ℤ) (xs : List A) → ((x : A) → f x ≤ℤ g x) → total f xs ≤ℤ total g xs
-total_keeps f g [] h = omega (arith, ints)
-total_keeps f g (x ∷ xs) h = omega (arith, ints, h x, total_keeps f g xs h)
-
--- terms of at least 0 whose sum is 0 are each 0
-pub total_at_least_zero : {A : Type 0} (f : A → ℤ) (xs : List A) → ((x : A) → pos 0 ≤ℤ f x) → pos 0 ≤ℤ total f xs
-total_at_least_zero f [] h = omega (arith, ints)
-total_at_least_zero f (x ∷ xs) h = omega (arith, ints, h x, total_at_least_zero f xs h)
 
 -- terms of at most m either way have a sum of at most m for each
 pub total_within : {A : Type 0} (f : A → ℤ) (m : ℕ) (xs : List A) → All (λ x. unsigned_abs (f x) ≤ m) xs → unsigned_abs (total f xs) ≤ m * length xs

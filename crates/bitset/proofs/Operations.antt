@@ -388,9 +388,6 @@ part_word i n k bit e =
       | inr h ↦ ap (λ m. nat_eq m 1) (bit_at_ones_above (n % 64) k h) ∙ sym (le-ltb (64 * i + k) n (omega arith))
     ]
 
-pub no_word : (i n k : ℕ) → n / 64 < i → is_set 0 k ≡ nat_lt (64 * i + k) n
-no_word i n k h = is_set-zero k ∙ sym (le-ltb (64 * i + k) n (omega arith))
-
 pub or_small : (x y : ℕ) → x < 2 ^ 64 → y < 2 ^ 64 → bit_or x y < 2 ^ 64
 or_small x y h k = or_lt 64 x y h k
 

@@ -1,6 +1,6 @@
 -- What the calls of a builder do, by its fields.
 use Rattle.std.proofs.Common.{◌≡◌, ◌≢◌, ◌≤◌, ℕ, Bool, true, false, List, [], ◌∷◌, map, Contains, refl, sym, ◌∙◌, subst}
-use Rattle.lists.proofs.Entries.{Contains-map, first_of, not_empty}
+use Rattle.lists.proofs.Entries.{Contains-map, first_of}
 use Rattle.graphs.specs.Certificates.{Part}
 use Rattle.cluster_store.specs.Stores.{Shown}
 use Rattle.tx_graph.specs.Kept.{Kept}
@@ -32,7 +32,3 @@ pub walk_bounded : (least : ℕ) (parts : List Part) (shown : List Shown) → ma
     → ((part : Part) → Contains parts part → least ≤ part.rate.size) → (s : Shown) → Contains shown s → least ≤ s.part.rate.size
 walk_bounded least parts shown is low s here =
     low s.part (subst (λ (ps : List Part). Contains ps s.part) is (Contains-map (λ (t : Shown). t.part) shown s here))
-
--- a list with a first entry isn't empty
-pub some_ahead : (ahead rest : List Shown) (s : Shown) → ahead ≡ s ∷ rest → ahead ≢ []
-some_ahead ahead rest s is none = not_empty (sym is ∙ none)

@@ -2,7 +2,7 @@
 use Rattle.std.proofs.Common.{◌≡◌, ℕ, ℤ, pos, ◌+◌, ◌-◌, ◌*◌, ◌+ℤ◌, ◌<◌, ◌≤◌, unsigned_abs, Bool, true, false, true≢false, List, [], ◌∷◌, ◌++◌, map, Contains, refl, sym, ap, ◌∙◌, subst, arith}
 use Rattle.std.specs.Prelude.{Result, Ok, Err, OnOk, IsErr}
 use Rattle.std.proofs.lemmas.Int.{ints}
-use Rattle.std.proofs.lemmas.List.{map-append, append-nil, append_assoc}
+use Rattle.std.proofs.lemmas.List.{map-append, append-nil}
 use Rattle.std.proofs.lemmas.List.Elements.{Contains-append_right}
 use Rattle.lists.proofs.Entries.{Contains-head, Contains-map}
 use Rattle.std.proofs.lemmas.List.Concat.{flat_map-append}
@@ -25,7 +25,7 @@ use Rattle.outside.specs.declared.errors.NoMemory.{NoMemory}
 use Rattle.tx_graph.specs.Dropped.{AreOfClusters, ArePaidBySize, IsBlockOf}
 use Rattle.tx_graph.specs.Kept.{Kept, StandsFor, MakesStep}
 use Rattle.block_builder.specs.Building.{is_marked, AddsMark}
-use Rattle.block_builder.specs.Drafts.{took, size_of, MayTake, Tells, IsDraft, Drafts, Offers, IsFilled, ArePicked}
+use Rattle.block_builder.specs.Drafts.{took, size_of, MayTake, Tells, IsDraft, Drafts, IsFilled, ArePicked}
 use Rattle.block_builder.specs.declared.draft.Draft.{Draft}
 use Rattle.block_builder.proofs.Marking.{Entry, shown_in, left_out, took_one, took_none, size_one, marked_none, marked_more, not_taken, none_fit, left_none, left_taken, left_passed, left_marked, shown_left_out, is_block}
 
@@ -180,10 +180,6 @@ pub steps_unfilled : (kept : Kept) (limit : ℕ) (r : Result Picked NoMemory) �
 steps_unfilled kept limit (Ok picked) failed steps = absurd (true≢false (sym failed))
 steps_unfilled kept limit (Err why) failed steps = steps limit
 
--- a filled draft leaves at most the limit
-pub left_within : (draft : Draft) (shown : List Shown) → IsFilled draft shown → draft.left ≤ draft.limit
-left_within draft shown (gone, is, tells) = let told = tells.size_is in omega (arith, told)
-
 -- ---- the calls
 
 pub ok_then : {T E A B : Type 0} (r : Result T E) → OnOk r A → (A → B) → OnOk r B
@@ -202,28 +198,6 @@ pub record IsSoFar (draft : Draft) (all rest : List Shown) : Type 0 where
   pub gone : List Entry
   pub cut : all ≡ shown_in gone ++ rest
   pub drafts : Drafts draft gone
-
-pub so_far_none : (draft : Draft) (all : List Shown) → Drafts draft [] → IsSoFar draft all all
-so_far_none draft all drafts = record { gone = []; cut = refl; drafts = drafts }
-
-pub so_far_more : (old new : Draft) (all rest behind : List Shown) (s : Shown) → IsSoFar old all rest → rest ≡ s ∷ behind → Offers s old new
-    → IsSoFar new all behind
-so_far_more old new all rest behind s so is offers =
-    let next = offers so.gone so.drafts in
-    record {
-      gone = so.gone ++ (s, next.0) ∷ [];
-      cut = so.cut ∙ ap (λ ss. shown_in so.gone ++ ss) is ∙ sym (append_assoc (shown_in so.gone) (s ∷ []) behind)
-          ∙ ap (λ ss. ss ++ behind) (sym (map-append (λ (e : Entry). e.0) so.gone ((s, next.0) ∷ [])));
-      drafts = next.1;
-    }
-
--- where no part comes any more
-pub filled_end : (draft : Draft) (all rest : List Shown) → IsSoFar draft all rest → rest ≡ [] → IsFilled draft all
-filled_end draft all rest so none = (
-  so.gone,
-  sym (so.cut ∙ ap (λ ss. shown_in so.gone ++ ss) none ∙ append-nil (shown_in so.gone)),
-  so.drafts.tells,
-)
 
 -- where none that comes fits
 pub filled_early : (draft : Draft) (all rest : List Shown) (least : ℕ) → IsSoFar draft all rest → draft.left < least

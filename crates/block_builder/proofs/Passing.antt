@@ -5,7 +5,7 @@ use Rattle.std.proofs.lemmas.List.{map-append, append_assoc}
 use Rattle.std.proofs.lemmas.List.Elements.{Contains-append_left, Contains-append_right}
 use Rattle.std.proofs.lemmas.Option.{same_Some}
 use Rattle.lists.proofs.Cases.{some_none}
-use Rattle.lists.proofs.Entries.{Contains-head, none_in_empty, first_of, not_empty, map-Contains, Contains-map}
+use Rattle.lists.proofs.Entries.{Contains-head, first_of, not_empty, map-Contains, Contains-map}
 use Rattle.graphs.specs.Certificates.{Part}
 use Rattle.graph_model.specs.Blocks.{ShareComponent}
 use Rattle.graph_model.specs.States.{State}
@@ -175,9 +175,6 @@ pub record ArePassed (marks : List Bool) (all rest : List Shown) : Type 0 where
   pub passed : List Shown
   pub cut : all ≡ passed ++ rest
   pub out : (s : Shown) → Contains passed s → is_marked marks s.number ≡ true
-
-pub passed_none : (marks : List Bool) (all : List Shown) → ArePassed marks all all
-passed_none marks whole = record { passed = []; cut = refl; out = λ s here. absurd (none_in_empty s here) }
 
 pub passed_more : (marks : List Bool) (all rest behind : List Shown) (s : Shown) → ArePassed marks all rest → rest ≡ s ∷ behind
     → is_marked marks s.number ≡ true → ArePassed marks all behind

@@ -12,7 +12,7 @@ use Rattle.std.proofs.lemmas.Option.{same_Some}
 use Rattle.graphs.specs.declared.names.Flow.{Flow}
 use Rattle.graphs.specs.Certificates.{given, gotten, weight_in}
 use Rattle.fee_rate.specs.declared.rates.Sum.{Sum}
-use Rattle.certificate.specs.Places.{ArePlaces}
+use Rattle.places.specs.Places.{ArePlaces}
 use Rattle.certificate.specs.declared.flows.Account.{Account}
 use Rattle.certificate.specs.Accounts.{account_at, IsOpen, AreOpen, amount_of, ends_of}
 

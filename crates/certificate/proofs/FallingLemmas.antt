@@ -13,7 +13,7 @@ use Rattle.graphs.specs.Certificates as model
 use Rattle.certificate.specs.declared.owned.Part.{Part}
 use Rattle.certificate.specs.Fallings.{rates_of, rate_at, AreSummed, AreRates}
 use Rattle.certificate.specs.Parts.{part_of, parts_of, order_of, ids_at}
-use Rattle.certificate.specs.Places.{ArePlaces}
+use Rattle.places.specs.Places.{ArePlaces}
 use Rattle.certificate.specs.Tables.{names_of, AreInLimits}
 use Rattle.certificate.proofs.PartLemmas.{ids_here, order_has, part_at, contains_part, some_part}
 use Rattle.certificate.proofs.RateLemmas.{all_within, sums_in_range, sums_some, falls_by_position, position_by_falls}

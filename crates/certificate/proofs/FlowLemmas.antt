@@ -1,5 +1,5 @@
 -- The fourth test, put together.
-use Rattle.std.proofs.Common.{◌≡◌, ℕ, ◌<◌, ◌≤◌, List, [], length, sym, ap, ◌∙◌, subst, arith, get_or, Option, Some}
+use Rattle.std.proofs.Common.{◌≡◌, ℕ, ◌<◌, ◌≤◌, List, [], length, sym, ap, ◌∙◌, subst, get_or, Option, Some}
 use Rattle.std.specs.Prelude.{Contains}
 use Rattle.std.proofs.lemmas.Option.{same_Some}
 use Rattle.lists.specs.Distinct.{AreDistinct}
@@ -12,7 +12,7 @@ use Rattle.certificate.specs.declared.flows.Account.{Account}
 use Rattle.certificate.specs.declared.owned.Part.{Part}
 use Rattle.certificate.specs.Accounts.{account_at, IsOpen, AreOpen, AreNet, KeepParts, AreInside, AreBalanced, ends_of}
 use Rattle.certificate.specs.Parts.{part_of, parts_of, ids_at, flows_at}
-use Rattle.certificate.specs.Places.{ArePlaces}
+use Rattle.places.specs.Places.{ArePlaces}
 use Rattle.certificate.proofs.PartLemmas.{ids_here, part_at, contains_part, some_part}
 use Rattle.std.proofs.lemmas.List.{get_or-map}
 
@@ -55,9 +55,6 @@ certifies names find rate IsLink whole ids flows part accounts booked h o once i
       ap (λ (s : Sum). weight_in s (rate id)) (sym is) ∙ b ∙ n;
 }
 
-pub once_part : (rate : ℕ → Sum) (IsLink : ℕ → ℕ → Type 0) (ids : List ℕ) (flows : List Flow) → Certifies rate IsLink ids flows → AreDistinct (ends_of flows)
-once_part rate IsLink ids flows c = c.once
-
 pub inside_part : (find : ℕ → Option ℕ) (rate : ℕ → Sum) (IsLink : ℕ → ℕ → Type 0) (ids : List ℕ) (flows : List Flow) (part : ℕ) (accounts : List Account)
     → AreOpen find ids part accounts → Certifies rate IsLink ids flows
     → AreInside find IsLink accounts part flows
@@ -71,10 +68,6 @@ pub balanced_part : (find : ℕ → Option ℕ) (rate : ℕ → Sum) (IsLink : �
     → AreNet find part flows booked → whole ≡ sums rate ids → Certifies rate IsLink ids flows → AreBalanced find rate whole ids booked
 balanced_part find rate IsLink whole ids flows part accounts booked o keep net is c id p there p_is =
     ap (λ (s : Sum). weight_in s (rate id)) is ∙ c.balanced id there ∙ sym (net id p p_is (member_part find ids part accounts booked id p o keep there p_is))
-
-pub kept_bound : (find : ℕ → Option ℕ) (ids : List ℕ) (part : ℕ) (accounts booked : List Account)
-    → AreOpen find ids part accounts → KeepParts accounts booked → (p : ℕ) → (account_at booked p).part ≤ part
-kept_bound find ids part accounts booked o keep p = let b = o.bound p in let k = keep p in omega arith
 
 -- ---- all parts
 pub flows_here : (parts : List Part) (k : ℕ) (part : Part) → k < length parts → part ≡ get_or parts k part → part.flows ≡ flows_at parts k

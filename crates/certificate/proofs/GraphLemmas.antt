@@ -9,7 +9,8 @@ use Rattle.fee_rate.specs.declared.limits.TheConstants.{MAX_TOTAL}
 use Rattle.fee_rate.specs.Limits.{IsFee, IsSize}
 use Rattle.graphs.specs.Graphs.{HasNoCycle, IsGraph}
 use Rattle.graphs.specs.Certificates.{Txs, HasGraph, graph_of}
-use Rattle.certificate.specs.Places.{ArePlaces, ArePairs, AreOf}
+use Rattle.places.specs.Places.{ArePlaces, AreAmong}
+use Rattle.certificate.specs.Places.{ArePairs}
 use Rattle.certificate.specs.Tables.{names_of, AreInLimits}
 use Rattle.certificate.proofs.PlaceLemmas.{places_distinct}
 use Rattle.certificate.proofs.Labels.{Labels, no_cycle_named, no_cycle_placed, ends_named}
@@ -35,7 +36,7 @@ edges_acyclic names find edges pairs h p n = subst HasNoCycle (sym p.same) (no_c
 pub pairs_acyclic : (names : List ℕ) (edges pairs : List (ℕ × ℕ)) → ArePairs names edges pairs → HasNoCycle edges → HasNoCycle pairs
 pairs_acyclic names edges pairs p n = no_cycle_placed names pairs (subst HasNoCycle p.same n)
 
-pub ends_are_names : (names : List ℕ) (edges pairs : List (ℕ × ℕ)) → ArePairs names edges pairs → AreOf names edges
+pub ends_are_names : (names : List ℕ) (edges pairs : List (ℕ × ℕ)) → ArePairs names edges pairs → AreAmong names edges
 ends_are_names names edges pairs p a b here = ends_named names pairs a b p.within (subst (λ l. Contains {X = ℕ × ℕ} l (a, b)) p.same here)
 
 pub is_graph : (txs : Txs) (find : ℕ → Option ℕ) (edges pairs : List (ℕ × ℕ)) → ArePlaces (names_of txs) find
@@ -46,9 +47,6 @@ is_graph txs find edges pairs h p d n = record {
   ends = ends_are_names (names_of txs) edges pairs p;
   acyclic = edges_acyclic (names_of txs) find edges pairs h p n;
 }
-
-pub graph_in_limits : (txs : Txs) (edges : List (ℕ × ℕ)) → AreInLimits txs → IsGraph (graph_of txs edges) → HasGraph txs edges
-graph_in_limits txs edges l g = record { few = l.few; limits = l.limits; graph = g }
 
 -- ---- limits
 pub limits_all : (txs : Txs) → length txs ≤ MAX_TOTAL

@@ -9,8 +9,8 @@ use Rattle.lists.proofs.Cases.{swap}
 use Rattle.lists.proofs.Entries.{Contains-head, Contains-later, Contains-cases, none_in_empty}
 use Rattle.graphs.proofs.WalkLemmas.{connected_trans, AreConnected-sym}
 use Rattle.graphs.specs.Graphs.{Trail, AreConnected}
-use Rattle.certificate.specs.Chains.{pair_at, IsLast}
-use Rattle.certificate.specs.Groups.{AreWithin, AreGroups, turned, GoBothWays, HasGroup, AreOfGroup, IsGrouping, GoesOn, work_of}
+use Rattle.places.specs.Chains.{pair_at, IsLast, AreWithin, turned}
+use Rattle.certificate.specs.Groups.{AreGroups, GoBothWays, HasGroup, AreOfGroup, IsGrouping, GoesOn, work_of}
 use Rattle.certificate.proofs.Searching.{contains_at, position_of}
 
 -- ---- a place gets a group

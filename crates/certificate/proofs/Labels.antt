@@ -6,7 +6,7 @@ use Rattle.std.proofs.lemmas.List.Elements.{Contains-get_or}
 use Rattle.lists.proofs.Distinct.{one_place}
 use Rattle.lists.specs.Distinct.{AreDistinct}
 use Rattle.graphs.specs.Graphs.{Walk, Trail, AreConnected, HasNoCycle}
-use Rattle.certificate.specs.Groups.{AreWithin}
+use Rattle.places.specs.Chains.{AreWithin}
 use Rattle.certificate.specs.Places.{named}
 
 -- the names are distinct, and the pairs are of their places

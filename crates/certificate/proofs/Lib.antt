@@ -4,7 +4,6 @@ pub mod FlowLemmas
 pub mod GraphLemmas
 pub mod Grouping
 pub mod Labels
-pub mod Links
 pub mod OrderLemmas
 pub mod PartLemmas
 pub mod PlaceLemmas

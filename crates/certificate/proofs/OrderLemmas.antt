@@ -8,11 +8,12 @@ use Rattle.graphs.specs.Linearizations.{IsTopological}
 use Rattle.graphs.specs.Certificates.{Txs, graph_of, HasOrder}
 use Rattle.graphs.specs.Certificates as model
 use Rattle.certificate.specs.declared.owned.Part.{Part}
-use Rattle.certificate.specs.Chains.{pair_at}
-use Rattle.certificate.specs.Groups.{AreGroups, AreWithin}
+use Rattle.places.specs.Chains.{pair_at, AreWithin}
+use Rattle.certificate.specs.Groups.{AreGroups}
 use Rattle.certificate.specs.Orders.{IsOrderOf, AreRanks, Rise, AreOfOneGroup}
 use Rattle.certificate.specs.Parts.{part_of, parts_of, order_of, ids_at}
-use Rattle.certificate.specs.Places.{ArePlaces, named}
+use Rattle.places.specs.Places.{ArePlaces}
+use Rattle.certificate.specs.Places.{named}
 use Rattle.certificate.specs.Tables.{names_of}
 use Rattle.certificate.proofs.PlaceLemmas.{places_distinct}
 use Rattle.certificate.proofs.Labels.{from, to, connected_named, connected_placed}

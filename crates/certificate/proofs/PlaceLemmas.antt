@@ -1,44 +1,15 @@
 -- Names and their places.
-use Rattle.std.proofs.Common.{◌≡◌, ◌≢◌, ℕ, ◌+◌, ◌<◌, List, [], ◌∷◌, ◌++◌, length, inl, inr, sym, ap, ◌∙◌, subst, arith, get_or, take, map, Option, Some, None, eqb, false, ℤ, pos}
+use Rattle.std.proofs.Common.{◌≡◌, ◌≢◌, ℕ, ◌+◌, ◌<◌, List, [], ◌∷◌, ◌++◌, length, sym, ap, ◌∙◌, subst, arith, get_or, take, map, Option, Some, None, eqb, false, ℤ}
 use Rattle.std.specs.Prelude.{Contains}
-use Rattle.std.proofs.lemmas.Bool.{cases_eq, cases_lt, ne_eqb}
-use Rattle.std.proofs.lemmas.List.{get_or_push, get_or_append_left, length_push, length-take-le, get_or_default, take_more, get_or-map, map-append}
+use Rattle.std.proofs.lemmas.List.{length-take-le, get_or_default, take_more, map-append}
 use Rattle.std.proofs.lemmas.List.Elements.{All-push, Contains-get_or}
 use Rattle.std.proofs.lemmas.Option.{same_Some}
 use Rattle.lists.proofs.Cases.{some_none}
 use Rattle.lists.proofs.Distinct.{distinct_from_places, repeated}
 use Rattle.lists.specs.Distinct.{AreDistinct}
-use Rattle.certificate.specs.Places.{ArePlaces, AreOf, named, ArePairs}
-
-pub no_places : (find : ℕ → Option ℕ) → ((q : ℕ) → find q ≡ None) → ArePlaces [] find
-no_places find h = record { sound = λ id p e. absurd (some_none p (sym e ∙ h id)); complete = λ p in'. absurd (omega arith) }
-
-pub more_places : (names : List ℕ) (find find' : ℕ → Option ℕ) (id n : ℕ) → ArePlaces names find → n ≡ length names
-    → find id ≡ None → find' id ≡ Some n → ((q : ℕ) → eqb id q ≡ false → find' q ≡ find q) → ArePlaces (names ++ (id ∷ [])) find'
-more_places names find find' id n h size none here others = record {
-  sound =
-      λ q p e.
-      elim (cases_eq q id) [
-        | inl same ↦
-            (let at : n ≡ p = same_Some n p (sym here ∙ ap find' (sym same) ∙ e) in
-            (omega (arith, length_push names id), get_or_push names id 0 p (sym size ∙ at) ∙ sym same))
-        | inr other ↦
-            (let old = h.sound q p (sym (others q (ne_eqb id q (λ same. other (sym same)))) ∙ e) in
-            (omega (arith, length_push names id, old.0), get_or_append_left names (id ∷ []) 0 p old.0 ∙ old.1))
-      ];
-  complete =
-      λ p in'.
-      elim (cases_lt p (length names)) [
-        | inl less ↦
-            (let e = get_or_append_left names (id ∷ []) 0 p less in
-            let old = h.complete p less in
-            let other : get_or names p 0 ≢ id = λ same. some_none p (sym old ∙ ap find same ∙ none) in
-            ap find' e ∙ others (get_or names p 0) (ne_eqb id _ (λ same. other (sym same))) ∙ old)
-        | inr more ↦
-            (let last : p ≡ length names = omega (arith, length_push names id) in
-            ap find' (get_or_push names id 0 p (sym last)) ∙ here ∙ ap Some (size ∙ sym last))
-      ];
-}
+use Rattle.places.specs.Places.{ArePlaces, AreAmong}
+use Rattle.places.proofs.Placing.{more_places, found_in}
+use Rattle.certificate.specs.Places.{named, ArePairs}
 
 pub places_distinct : (names : List ℕ) (find : ℕ → Option ℕ) → ArePlaces names find → AreDistinct names
 places_distinct names find h =
@@ -50,15 +21,10 @@ places_distinct names find h =
     let q = same_Some i j p in
     omega arith)
 
--- a number that isn't found is no name, and one that is found is
+-- a number that isn't found is no name
 pub not_found : (names : List ℕ) (find : ℕ → Option ℕ) (id : ℕ) → ArePlaces names find → find id ≡ None → Contains names id → ⊥
 not_found names find id h none (k, in', e) =
     some_none k (sym (h.complete k in') ∙ ap find (get_or_default names k 0 id in' ∙ e) ∙ none)
-
-pub found : (names : List ℕ) (find : ℕ → Option ℕ) (id p : ℕ) → ArePlaces names find → find id ≡ Some p → Contains names id
-found names find id p h some =
-    let s = h.sound id p some in
-    (p, s.0, get_or_default names p id 0 s.0 ∙ s.1)
 
 -- ---- a list of names, one more
 pub places_next : (names : List ℕ) (k id : ℕ) (find find' : ℕ → Option ℕ) → k < length names
@@ -70,21 +36,18 @@ places_next names k id find find' in' e h none here others =
 
 pub places_again : (names : List ℕ) (k id p : ℕ) (find : ℕ → Option ℕ) → k < length names
     → get_or names k 0 ≡ id → ArePlaces (take k names) find → find id ≡ Some p → AreDistinct names → ⊥
-places_again names k id p find in' e h some = repeated names k id 0 in' e (found (take k names) find id p h some)
-
-pub name_at : (txs : List (ℕ × ℤ × ℕ)) (k : ℕ) → k < length txs → get_or (map (λ tx. tx.0) txs) k 0 ≡ (get_or txs k (0, pos 0, 0)).0
-name_at txs k in' = get_or-map (λ (tx : ℕ × ℤ × ℕ). tx.0) txs k (0, pos 0, 0) 0 in'
+places_again names k id p find in' e h some = repeated names k id 0 in' e (found_in (take k names) find id p h some)
 
 -- ---- edges as pairs of places
 edge_here : (edges : List (ℕ × ℕ)) (k : ℕ) → k < length edges → Contains {X = ℕ × ℕ} edges ((get_or edges k (0, 0)).0, (get_or edges k (0, 0)).1)
 edge_here edges k in' = Contains-get_or edges k (0, 0) in'
 
 pub no_parent : (list : List ℕ) (find : ℕ → Option ℕ) (edges : List (ℕ × ℕ)) (k : ℕ) → k < length edges
-    → ArePlaces list find → find (get_or edges k (0, 0)).0 ≡ None → AreOf list edges → ⊥
+    → ArePlaces list find → find (get_or edges k (0, 0)).0 ≡ None → AreAmong list edges → ⊥
 no_parent list find edges k in' h none all = not_found list find _ h none (all _ _ (edge_here edges k in')).0
 
 pub no_child : (list : List ℕ) (find : ℕ → Option ℕ) (edges : List (ℕ × ℕ)) (k : ℕ) → k < length edges
-    → ArePlaces list find → find (get_or edges k (0, 0)).1 ≡ None → AreOf list edges → ⊥
+    → ArePlaces list find → find (get_or edges k (0, 0)).1 ≡ None → AreAmong list edges → ⊥
 no_child list find edges k in' h none all = not_found list find _ h none (all _ _ (edge_here edges k in')).1
 
 pub more_pairs : (list : List ℕ) (find : ℕ → Option ℕ) (edges pairs : List (ℕ × ℕ)) (k p c : ℕ) → k < length edges

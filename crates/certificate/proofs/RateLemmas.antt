@@ -17,10 +17,11 @@ use Rattle.fee_rate.specs.declared.limits.TheConstants.{MAX_FEE, MAX_SIZE, MAX_T
 use Rattle.fee_rate.specs.Rates.{AtMost}
 use Rattle.graphs.specs.Rates.{sums, Falls}
 use Rattle.graphs.specs.Certificates.{Txs, rate_in}
-use Rattle.certificate.specs.Places.{ArePlaces}
+use Rattle.places.specs.Places.{ArePlaces}
 use Rattle.certificate.specs.Tables.{names_of, AreInLimits}
 use Rattle.certificate.proofs.GraphLemmas.{limits_at}
-use Rattle.certificate.proofs.PlaceLemmas.{places_distinct, name_at}
+use Rattle.places.proofs.Placing.{name_at}
+use Rattle.certificate.proofs.PlaceLemmas.{places_distinct}
 
 abbrev pub rate_here : Txs → ℕ → Sum
 rate_here txs p = record { fee = (get_or txs p (0, pos 0, 0)).1; size = (get_or txs p (0, pos 0, 0)).2 }

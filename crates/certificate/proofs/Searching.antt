@@ -1,8 +1,8 @@
 -- One step of a search by depth.
-use Rattle.std.proofs.Common.{◌≡◌, ◌≢◌, ℕ, ◌+◌, ◌-◌, ◌<◌, ◌≤◌, zero, suc, List, [], ◌∷◌, ◌++◌, length, inl, inr, refl, sym, ap, ◌∙◌, subst, arith, get_or, set, take, sum, replicate, nat_eq}
+use Rattle.std.proofs.Common.{◌≡◌, ◌≢◌, ℕ, ◌+◌, ◌-◌, ◌<◌, ◌≤◌, zero, suc, List, [], ◌∷◌, ◌++◌, length, inl, inr, refl, sym, ap, ◌∙◌, subst, arith, get_or, set, take, sum, nat_eq}
 use Rattle.std.specs.Prelude.{Contains, sum_by}
 use Rattle.std.proofs.lemmas.Bool.{cases_eq, cases_lt, ne_eqb, eqb-true}
-use Rattle.std.proofs.lemmas.List.{get_or-set_same, get_or-set_other, length-set, get_or_append_left, get_or_push, length_push, get_or_default, get_or-take, length-take-le, get_or_read, get_or-replicate, length-replicate, get_or_past}
+use Rattle.std.proofs.lemmas.List.{get_or-set_same, get_or-set_other, length-set, get_or_append_left, get_or_push, length_push, get_or_default, get_or-take, length-take-le, get_or_read}
 use Rattle.std.proofs.lemmas.List.Sums.{sum_by-set}
 use Rattle.std.proofs.lemmas.Map.Keys.{IsDistinct-from_apart}
 use Rattle.std.proofs.lemmas.Map.Steps.{length-le_from_distinct_below}
@@ -11,8 +11,7 @@ use Rattle.graphs.proofs.WalkLemmas.{walk_cons}
 use Rattle.graphs.specs.Graphs.{Walk, IsAncestor, HasNoCycle}
 use Rattle.certificate.specs.declared.cycles.Visit.{Visit}
 use Rattle.certificate.specs.declared.cycles.Visit.TheVariants.{New, Open, Done}
-use Rattle.certificate.specs.Chains.{pair_at, IsLast, AreChains}
-use Rattle.certificate.specs.Groups.{AreWithin}
+use Rattle.places.specs.Chains.{pair_at, IsLast, AreWithin}
 use Rattle.certificate.specs.Searches.{visit_at, IsLooked, IsWay, IsSearch, weight_of, work_of, GoesOn}
 
 -- ---- visits
@@ -420,43 +419,9 @@ goes_further pairs visits left' visits' way' left'' visits'' way'' g h = record 
 }
 
 -- ---- before and after
-new_not_done : New ≡ Done → ⊥
-new_not_done e = cc
 
 zero_suc : (n : ℕ) → suc n ≡ 0 → ⊥
 zero_suc n e = cc
-
-all_new : (count x : ℕ) → visit_at (replicate count New) x ≡ New
-all_new count x =
-    elim (cases_lt x count) [
-      | inl less ↦ get_or-replicate count x New New less
-      | inr more ↦ get_or_past (replicate count New) x New (subst (λ n. n ≤ x) (sym (length-replicate count New)) more)
-    ]
-
-pub search_none : (pairs : List (ℕ × ℕ)) (last before : List ℕ) (count : ℕ)
-    → AreChains pairs last before → length last ≡ count → IsSearch pairs last (replicate count New) []
-search_none pairs last before count c size =
-    let long = length-replicate count New in
-    record {
-      sized = size ∙ sym long;
-      looking =
-          λ x k.
-          let e = c.ends x (omega arith) in
-          record {
-            below = e.below;
-            into = e.into;
-            looked = λ j a b into. absurd (e.later j a b into);
-          };
-      open_way = record {
-        within = λ i k. absurd (omega arith);
-        is_open = λ i k. absurd (omega arith);
-        once = λ i j less k e. omega arith;
-        upward = λ i j le k. absurd (omega arith);
-      };
-      on_way = λ x k o. absurd (new_not_open (sym (all_new count x) ∙ o));
-      parents = λ k a d. absurd (new_not_done (sym (all_new count _) ∙ d));
-      acyclic = λ x n d w. absurd (new_not_done (sym (all_new count x) ∙ d));
-    }
 
 pub search_all : (pairs : List (ℕ × ℕ)) (left : List ℕ) (visits : List Visit) (way : List ℕ) → IsSearch pairs left visits way → AreWithin (length visits) pairs
     → ((k : ℕ) → k < length visits → visit_at visits k ≡ Done) → HasNoCycle pairs

@@ -1,8 +1,8 @@
 -- Seats of names in an order.
-use Rattle.std.proofs.Common.{◌≡◌, ◌≢◌, ℕ, ◌+◌, ◌<◌, ◌≤◌, zero, suc, List, [], ◌∷◌, ◌++◌, length, inl, inr, refl, sym, ap, ◌∙◌, subst, arith, get_or, set, take, drop, replicate, Option, Some, None, cond}
+use Rattle.std.proofs.Common.{◌≡◌, ◌≢◌, ℕ, ◌+◌, ◌<◌, ◌≤◌, List, [], ◌∷◌, ◌++◌, length, inl, inr, refl, sym, ap, ◌∙◌, subst, arith, get_or, set, take, drop, Option, Some, None, cond}
 use Rattle.std.specs.Prelude.{Contains, is_some, IsSome, count_by}
-use Rattle.std.proofs.lemmas.Bool.{cases_eq, cases_lt}
-use Rattle.std.proofs.lemmas.List.{get_or-set_same, get_or-set_other, length-set, length-take-le, get_or-take, get_or_default, get_or-replicate, length-replicate, get_or_past, take-append-drop, drop_more, length-append, get_or_at, get_or_append_left, take_at}
+use Rattle.std.proofs.lemmas.Bool.{cases_eq}
+use Rattle.std.proofs.lemmas.List.{get_or-set_same, get_or-set_other, length-set, length-take-le, get_or-take, get_or_default, take-append-drop, drop_more, length-append, get_or_at, get_or_append_left, take_at}
 use Rattle.std.proofs.lemmas.List.Sums.{sum_by-set, count_by-le-length}
 use Rattle.std.proofs.lemmas.List.Elements.{Contains-get_or}
 use Rattle.std.proofs.lemmas.Option.{same_Some}
@@ -10,28 +10,9 @@ use Rattle.lists.proofs.Cases.{some_none}
 use Rattle.lists.proofs.Distinct.{repeated, distinct_from_places, one_place}
 use Rattle.lists.specs.Distinct.{AreDistinct}
 use Rattle.graphs.specs.Linearizations.{StandsBefore}
-use Rattle.certificate.specs.Places.{ArePlaces}
+use Rattle.places.specs.Places.{ArePlaces}
 use Rattle.certificate.specs.Orders.{IsOrderOf, seat_at, AreSeats, AreRanks, AreTaken, AreOfOneGroup}
 use Rattle.certificate.proofs.PlaceLemmas.{not_found, places_distinct}
-
-no_seat : (n x : ℕ) → seat_at (replicate n None) x ≡ None
-no_seat n x =
-    elim (cases_lt x n) [
-      | inl less ↦ get_or-replicate n x None None less
-      | inr more ↦ get_or_past (replicate n None) x None (subst (λ m. m ≤ x) (sym (length-replicate {A = Option ℕ} n None)) more)
-    ]
-
-no_count : (n : ℕ) → count_by {X = Option ℕ} is_some (replicate n None) ≡ 0
-no_count zero = refl
-no_count (suc n) = no_count n
-
-pub seats_none : (names : List ℕ) (n : ℕ) → n ≡ length names → AreSeats names [] (replicate n None)
-seats_none names n size = record {
-  sized = length-replicate {A = Option ℕ} n None ∙ size;
-  sound = λ p r in' e. absurd (some_none r (sym e ∙ no_seat n p));
-  complete = λ r in'. absurd (omega arith);
-  count = sym (no_count n);
-}
 
 one_more : (k a b c n : ℕ) → a ≡ k → a ≡ b → c + n ≡ b + 1 → n ≡ 0 → k + 1 ≡ c
 one_more k a b c n e f g h = omega arith

@@ -9,7 +9,7 @@ use Rattle.graphs.specs.Rates.{HasSizes}
 use Rattle.certificate.specs.declared.fault.CheckFault.{CheckFault}
 use Rattle.certificate.specs.declared.fault.CheckFault.TheVariants.{Order, Falling, Flow, Graph, Memory}
 use Rattle.certificate.specs.Faults.{Says}
-use Rattle.certificate.specs.Places.{ArePlaces}
+use Rattle.places.specs.Places.{ArePlaces}
 use Rattle.certificate.specs.Tables.{names_of, AreInLimits}
 use Rattle.certificate.proofs.RateLemmas.{within_name}
 use Rattle.certificate.specs.declared.owned.Part.{Part}

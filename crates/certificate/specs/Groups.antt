@@ -1,20 +1,12 @@
 -- Components as groups of places, and groups as far as walks along pairs have come.
-use Rattle.std.specs.Prelude.{◌≡◌, ◌≢◌, ◌⊎◌, ◌↔◌, ℕ, ◌+◌, ◌<◌, List, length, All, Contains, slice_index, nat_eq, cond, sum_by}
+use Rattle.std.specs.Prelude.{◌≡◌, ◌≢◌, ◌⊎◌, ◌↔◌, ℕ, ◌+◌, ◌<◌, List, length, Contains, slice_index, nat_eq, cond, sum_by}
 use Rattle.graphs.specs.Graphs.{AreConnected}
-use Rattle.certificate.specs.Chains.{pair_at}
-
--- Both ends of each pair are among so many places.
-abbrev pub AreWithin : ℕ → List (ℕ × ℕ) → Type 0
-AreWithin count pairs = All (λ pair. (pair.0 < count) × (pair.1 < count)) pairs
+use Rattle.places.specs.Chains.{pair_at}
 
 -- Two places have one group exactly where they are in one component.
 pub record AreGroups (pairs : List (ℕ × ℕ)) (groups : List ℕ) : Type 0 where
   pub exact : (a b : ℕ) → a < length groups → b < length groups
       → (slice_index groups a ≡ slice_index groups b) ↔ AreConnected pairs a b
-
--- The pair the other way round.
-abbrev pub turned : ℕ × ℕ → ℕ × ℕ
-turned pair = (pair.1, pair.0)
 
 -- Each pair stands there the other way round too.
 abbrev pub GoBothWays : List (ℕ × ℕ) → Type 0

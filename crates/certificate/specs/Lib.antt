@@ -1,6 +1,5 @@
 pub mod Accounts
 pub mod Answers
-pub mod Chains
 pub mod Fallings
 pub mod Faults
 pub mod Groups

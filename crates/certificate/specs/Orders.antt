@@ -2,7 +2,7 @@
 use Rattle.std.specs.Prelude.{◌≡◌, ◌↔◌, ℕ, ◌<◌, ◌≤◌, List, length, Contains, Option, Some, None, slice_index, slice_index_or, is_some, count_by, replicate}
 use Rattle.lists.specs.Distinct.{AreDistinct}
 use Rattle.certificate.specs.declared.order.Desk.{Desk}
-use Rattle.certificate.specs.Chains.{pair_at}
+use Rattle.places.specs.Chains.{pair_at}
 use Rattle.certificate.specs.Groups.{AreGroups}
 
 -- The order is of the names, each once.

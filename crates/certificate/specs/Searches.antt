@@ -3,7 +3,7 @@ use Rattle.std.specs.Prelude.{◌≡◌, ◌≢◌, ℕ, ◌+◌, ◌-◌, ◌<�
 use Rattle.graphs.specs.Graphs.{Walk, IsAncestor}
 use Rattle.certificate.specs.declared.cycles.Visit.{Visit}
 use Rattle.certificate.specs.declared.cycles.Visit.TheVariants.{New, Open, Done}
-use Rattle.certificate.specs.Chains.{pair_at, IsLast}
+use Rattle.places.specs.Chains.{pair_at, IsLast}
 
 abbrev pub visit_at : List Visit → ℕ → Visit
 visit_at visits place = slice_index_or visits place New

@@ -6,7 +6,8 @@ use Rattle.fee_rate.specs.declared.limits.TheConstants.{MAX_TOTAL}
 use Rattle.fee_rate.specs.Limits.{IsFee, IsSize}
 use Rattle.graphs.specs.Certificates.{Txs}
 use Rattle.certificate.specs.declared.graph.Tables.{Tables}
-use Rattle.certificate.specs.Places.{ArePlaces, ArePairs}
+use Rattle.places.specs.Places.{ArePlaces}
+use Rattle.certificate.specs.Places.{ArePairs}
 
 -- The names of transactions.
 abbrev pub names_of : Txs → List ℕ

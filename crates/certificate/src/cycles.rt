@@ -1,10 +1,10 @@
 ghost use Rattle.std.specs.Prelude.{◌≡◌, ◌<◌, ◌≤◌, [], ◌∷◌, ◌++◌, length, replicate, slice_set, not, IsTrue, IfOk, MatchBool, vec_capacity};
 ghost use Rattle.graphs.specs.Graphs.{HasNoCycle};
 ghost use Rattle.certificate.specs.declared.cycles.Visit.TheVariants.{New, Open, Done};
-ghost use Rattle.certificate.specs.Groups.{AreWithin};
+ghost use Rattle.places.specs.Chains.{AreWithin};
 ghost use Rattle.certificate.specs.Searches.{IsSearch, GoesOn, LeadBack, visit_at, work_of};
 
-use crate::chains::{Chains, linked};
+use places::{Chains, linked};
 use std::alloc::{AllocError, Global};
 
 /// How far the search has come with a place.

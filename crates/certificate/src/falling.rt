@@ -5,7 +5,7 @@ ghost use Rattle.graphs.specs.Rates.{Falls, sums};
 ghost use Rattle.graphs.specs.Certificates.{HasFalling, rate_in};
 ghost use Rattle.certificate.specs.Fallings.{AreRates, AreSummed, rates_of};
 ghost use Rattle.certificate.specs.Parts.{ids_at, order_of, parts_of};
-ghost use Rattle.certificate.specs.Places.{ArePlaces};
+ghost use Rattle.places.specs.Places.{ArePlaces};
 ghost use Rattle.certificate.specs.Tables.{AreInLimits, names_of};
 
 use crate::Part;

@@ -12,7 +12,7 @@ ghost use Rattle.certificate.specs.Faults.{Says};
 ghost use Rattle.certificate.specs.Parts.{order_of, parts_of};
 ghost use Rattle.graphs.specs.declared.names.Flow.{Flow};
 ghost use Rattle.graphs.specs.Rates.{sums};
-ghost use Rattle.certificate.specs.Places.{ArePlaces};
+ghost use Rattle.places.specs.Places.{ArePlaces};
 ghost use Rattle.certificate.specs.Tables.{AreInLimits, names_of};
 
 use crate::falling::rate_of;

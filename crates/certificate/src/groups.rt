@@ -1,9 +1,9 @@
 ghost use Rattle.std.specs.Prelude.{◌≡◌, ◌+◌, ◌<◌, ◌≤◌, [], ◌∷◌, ◌++◌, length, map, slice_index, slice_set, IfOk, OnOk};
-ghost use Rattle.certificate.specs.Chains.{AreChains};
-ghost use Rattle.certificate.specs.Groups.{AreGroups, AreOfGroup, AreWithin, GoBothWays, GoesOn, HasGroup};
-ghost use Rattle.certificate.specs.Groups.{IsGrouping, turned, work_of};
+ghost use Rattle.places.specs.Chains.{AreChains, AreWithin, turned};
+ghost use Rattle.certificate.specs.Groups.{AreGroups, AreOfGroup, GoBothWays, GoesOn, HasGroup};
+ghost use Rattle.certificate.specs.Groups.{IsGrouping, work_of};
 
-use crate::chains::{Chains, linked};
+use places::{Chains, linked};
 use std::alloc::{AllocError, Global};
 
 /// Groups of places, as far as walks along pairs have come.

@@ -5,7 +5,6 @@
 //! certify each part. `Ok` says that the parts are optimal for the whole graph.
 #![tactic(auto)]
 
-mod chains;
 mod checker;
 mod cycles;
 mod falling;

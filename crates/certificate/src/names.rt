@@ -2,7 +2,8 @@ ghost use Rattle.std.specs.Prelude.{◌≡◌, ◌↔◌, ℕ, ◌+◌, ◌<◌,
 ghost use Rattle.std.specs.HashMap as hash;
 ghost use Rattle.std.specs.HashSet as bag;
 ghost use Rattle.lists.specs.Distinct.{AreDistinct};
-ghost use Rattle.certificate.specs.Places.{ArePlaces, AreOf, ArePairs};
+ghost use Rattle.places.specs.Places.{ArePlaces, AreAmong};
+ghost use Rattle.certificate.specs.Places.{ArePairs};
 
 use graphs::TxId;
 use std::collections::{HashMap, HashSet};
@@ -59,7 +60,7 @@ pub(crate) fn take_ends(
     requires empty { pairs.old.items ≡ [] }
     requires room { length edges.now ≤ vec_capacity pairs.old }
     ensures { (list : List ℕ) → ArePlaces list (hash.get nat_eq names.now)
-        → MatchBool result (ArePairs list edges.now pairs.new.items) (AreOf list edges.now → ⊥) }
+        → MatchBool result (ArePairs list edges.now pairs.new.items) (AreAmong list edges.now → ⊥) }
 {
     for edge in edges {
         let Some(parent) = find(names, edge.0) else {

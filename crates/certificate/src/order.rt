@@ -3,10 +3,11 @@ ghost use Rattle.std.specs.HashMap as hash;
 ghost use Rattle.graphs.specs.Certificates.{HasOrder, graph_of};
 ghost use Rattle.certificate.specs.declared.fault.CheckFault.TheVariants.{Order};
 ghost use Rattle.certificate.specs.Faults.{Says};
-ghost use Rattle.certificate.specs.Groups.{AreWithin};
+ghost use Rattle.places.specs.Chains.{AreWithin};
 ghost use Rattle.certificate.specs.Orders.{AreOfOneGroup, AreRanks, AreSeats, AreTaken, IsLaid, IsOrderOf, Rise, seat_at};
 ghost use Rattle.certificate.specs.Parts.{ids_at, order_of, parts_of};
-ghost use Rattle.certificate.specs.Places.{ArePlaces, named};
+ghost use Rattle.places.specs.Places.{ArePlaces};
+ghost use Rattle.certificate.specs.Places.{named};
 ghost use Rattle.certificate.specs.Tables.{names_of};
 
 use crate::graph::Tables;

@@ -1,5 +1,5 @@
 -- The entries of one tag: what each change of the items is on them.
-use Rattle.std.proofs.Common.{◌≡◌, ◌≤◌, Bool, true, false, List, [], ◌∷◌, ◌++◌, length, refl, sym, ap, ◌∙◌, arith}
+use Rattle.std.proofs.Common.{◌≡◌, ◌≤◌, Bool, true, false, List, [], ◌∷◌, ◌++◌, refl, sym, ap, ◌∙◌}
 use Rattle.std.specs.List.{AllByRecursion}
 use Rattle.std.specs.declared.cmp.Ordering.{Ordering}
 use Rattle.std.specs.declared.cmp.Ordering.TheVariants.{Less, Equal, Greater}
@@ -81,15 +81,6 @@ module _ (p : Tag → Bool) where
       by : (tagged : Bool) → p x.1 ≡ tagged → IsInOrder key_of (entries_by p xs) → IsInOrder key_of (entries_by p (x ∷ xs))
       by true t rest = rw t (all-entries (item_key x) xs order.0, rest)
       by false t rest = rw t rest
-
-  pub length-entries : (xs : Items) → length (entries_by p xs) ≤ length xs
-  unfolding entries_by
-  length-entries [] = omega arith
-  length-entries (x ∷ xs) = by (p x.1) refl (length-entries xs)
-    where
-      by : (tagged : Bool) → p x.1 ≡ tagged → length (entries_by p xs) ≤ length xs → length (entries_by p (x ∷ xs)) ≤ length (x ∷ xs)
-      by true t rest = rw t (omega (arith, rest))
-      by false t rest = rw t (omega (arith, rest))
 
   -- ---- a key that no item has, no entry has
   pub lacks-entries : (xs : Items) (k : Key) → has_key item_key xs k ≡ false → has_key key_of (entries_by p xs) k ≡ false

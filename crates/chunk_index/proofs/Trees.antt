@@ -28,18 +28,6 @@ second_is {n} {m} {a} {b} e = ap (λ (o : Option (ℕ × Tag)). (unwrap_or o (n,
 told : Bool → Bool → Tag
 told in_main in_top = cond in_main MainOnly (cond in_top TopOnly Both)
 
-told_both : (a b : Bool) → told a b ≡ Both → (a ≡ false) × (b ≡ false)
-unfolding told
-told_both true b is = absurd (apart is)
-  where
-    apart : MainOnly ≡ Both → ⊥
-    apart e = cc
-told_both false true is = absurd (apart is)
-  where
-    apart : TopOnly ≡ Both → ⊥
-    apart e = cc
-told_both false false is = (refl, refl)
-
 told_main : (a b : Bool) → told a b ≡ MainOnly → a ≡ true
 unfolding told
 told_main true b is = refl
@@ -65,10 +53,6 @@ told_top false false is = absurd (apart is)
     apart e = cc
 
 module _ (m t : List Entry) where
-  pub is_both : (k : Key) → tag_in m t k ≡ Both → (has_key key_of m k ≡ false) × (has_key key_of t k ≡ false)
-  unfolding tag_in told
-  is_both k is = told_both (has_key key_of m k) (has_key key_of t k) is
-
   pub is_main : (k : Key) → tag_in m t k ≡ MainOnly → has_key key_of m k ≡ true
   unfolding tag_in told
   is_main k is = told_main (has_key key_of m k) (has_key key_of t k) is

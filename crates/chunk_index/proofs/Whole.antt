@@ -56,15 +56,6 @@ module _ {es : Numbers} {m t f : List Entry} {count kept room : ℕ} (is : IsInd
     apart = λ q has. ap (λ (ns : Numbers). has_key pair_key ns q) same ∙ is.apart q has;
   }
 
-  pub same-index : (new : Numbers) (count2 kept2 room2 : ℕ) → new ≡ es → count2 ≡ count → kept ≤ kept2
-      → kept2 + length m + length t + length f ≤ room2 → IsIndex new m t f count2 kept2 room2
-  same-index new count2 kept2 room2 same counts more fits = record {
-    listed = subst (λ (ns : Numbers). IsKept ns m t count2 (length f) kept2 room2) (sym same)
-        (again-kept is.listed count2 (length f) kept2 room2 (omega (arith, is.listed.counted, counts)) (omega (arith, is.listed.nodes, more, counts)) fits);
-    order = is.order;
-    apart = λ q has. ap (λ (ns : Numbers). has_key pair_key ns q) same ∙ is.apart q has;
-  }
-
   module _ {items : Items} (seen : with_fresh others f ≡ items) where
     -- ---- an entry that comes in
     module _ (e : Entry) (missing : has items e ≡ false) where

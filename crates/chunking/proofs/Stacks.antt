@@ -1,5 +1,5 @@
 -- The stack of the rule: finished parts, and behind them the one that may still be joined to them.
-use Rattle.std.proofs.Common.{◌≡◌, ℕ, ◌+◌, ◌-◌, ◌^◌, ◌<◌, ◌≤◌, List, [], ◌∷◌, ◌++◌, refl, sym, ap, ◌∙◌, subst, arith, length, take, get_or, set, suc}
+use Rattle.std.proofs.Common.{◌≡◌, ℕ, ◌+◌, ◌-◌, ◌^◌, ◌<◌, ◌≤◌, List, [], ◌∷◌, ◌++◌, refl, sym, ap, ◌∙◌, subst, arith, length, take, get_or, set}
 use Rattle.std.specs.Prelude.{All}
 use Rattle.std.specs.List.{flat_map}
 use Rattle.std.proofs.lemmas.List.{append-nil, append_assoc, length-append, take_more, take_more_set, same_from_push}
@@ -32,9 +32,6 @@ pub record Stack (rates : List FeeRate) (chunks : List Chunk) (sum : Sum) : Type
   pub sum_is : sum ≡ sum_of last
 
 -- ---- lists of chunks
-length_chunks : (n : ℕ) (parts : List (List FeeRate)) → length (chunks_from n parts) ≡ length parts
-length_chunks n [] = refl
-length_chunks n (p ∷ parts) = ap suc (length_chunks (n + length p) parts)
 
 chunks_from-push : (n : ℕ) (parts : List (List FeeRate)) (p : List FeeRate)
     → chunks_from n (parts ++ (p ∷ [])) ≡ chunks_from n parts ++ (record { end = n + (length (whole parts) + length p); sum = sum_of p } ∷ [])

@@ -78,11 +78,6 @@ pub record Sent (parents : List (set.FinSet nat_cmp)) (within : set.FinSet nat_c
   pub grown : (c p : ℕ) → set.contains within c ≡ true → set.contains within p ≡ true → F c p < G c p → IsStep es at c p
   pub taken : (u v : ℕ) (step : IsStep es at u v) → step.k < k → set.contains (parents_at parents u) v ≡ false → G v u + amount ≡ F v u
 
-pub sent_none : (parents : List (set.FinSet nat_cmp)) (within : set.FinSet nat_cmp) (F : ℕ → ℕ → ℕ) (es : List Entry) (at amount : ℕ)
-    → Sent parents within F F es at at amount
-sent_none parents within F es at amount =
-    record { k = 0; is = refl; grown = λ c p m l h. absurd (omega (arith, h)); taken = λ u v step h. absurd (omega (arith, h)) }
-
 pub sent_step : (n : ℕ) (parents : List (set.FinSet nat_cmp)) (within : set.FinSet nat_cmp) (F G H : ℕ → ℕ → ℕ) (rest : ℕ → ℤ) (es : List Entry)
     (at here before amount : ℕ)
     → IsWithin n within → IsSearch n parents within F rest es → at < length es → from_at es here ≡ Some before
@@ -173,9 +168,6 @@ pub record Narrowed (parents : List (set.FinSet nat_cmp)) (flow : ℕ → ℕ �
   pub k : ℕ
   pub is : here ≡ back es at k
   pub least : (amount ≡ limit) ⊎ ((u : ℕ) × (v : ℕ) × IsStep es at u v × (set.contains (parents_at parents u) v ≡ false) × (flow v u ≡ amount))
-
-pub narrowed_none : (parents : List (set.FinSet nat_cmp)) (flow : ℕ → ℕ → ℕ) (es : List Entry) (at limit : ℕ) → Narrowed parents flow es at limit at limit
-narrowed_none parents flow es at limit = record { k = 0; is = refl; least = inl refl }
 
 pub narrowed_step : (parents : List (set.FinSet nat_cmp)) (flow : ℕ → ℕ → ℕ) (es : List Entry) (at limit here before amount x : ℕ)
     → Narrowed parents flow es at limit here amount → from_at es here ≡ Some before

@@ -178,9 +178,6 @@ spends n parents within F G r s es at label end a used climbs valid =
 module _ (n : ℕ) (parents : List (set.FinSet nat_cmp)) (within : set.FinSet nat_cmp) (flow : ℕ → ℕ → ℕ) (rest : ℕ → ℤ) (es : List Entry) (at : ℕ)
     (s : IsSearch n parents within flow rest es) (inside : at < length es) (path : IsShortest parents within flow rest es at)
     (label : ℕ → ℕ) (end : ℕ) (valid : IsLabelling parents within flow rest label end) where
-  place_back : ℕ → ℕ
-  place_back k = place_at es (back es at k)
-
   back_inside : (k : ℕ) → back es at k < length es
   back_inside k = omega (arith, back_below n parents within flow rest es at k s inside, inside)
 

@@ -92,11 +92,6 @@ pub grows_none : (es : List Entry) (next : set.FinSet nat_cmp) (from : Option �
 grows_none es next from =
     record { longer = omega arith; kept = λ i h. (refl, refl); added = λ i h k. absurd (omega arith) }
 
-pub putting_none : (n : ℕ) (es : List Entry) (seen next : set.FinSet nat_cmp) (from : Option ℕ) → Lists es seen → IsWithin n seen
-    → ((t : ℕ) → set.contains next t ≡ true → set.contains seen t ≡ false) → Putting n es es seen seen next next from
-putting_none n es seen next from l w apart =
-    record { lists = l; within = w; apart = apart; among = λ t m. m; grows = grows_none es next from; old = λ t m. m; got = λ t m. inl m; only = λ t m. inl m }
-
 grows_push : (before es : List Entry) (next : set.FinSet nat_cmp) (from : Option ℕ) (e : Entry) → Grows before es next from
     → set.contains next e.place ≡ true → e.from ≡ from → Grows before (es ++ e ∷ []) next from
 grows_push before es next from e g m f =

@@ -6,9 +6,7 @@ use Rattle.std.proofs.lemmas.Int.{ints}
 use Rattle.std.specs.Ordering.{nat_cmp}
 use Rattle.std.specs.FinSet as set
 use Rattle.bitset.specs.Members.{len_bound, from_meet, to_meet, from_union, to_union_left, to_union_right, from_minus, to_minus}
-use Rattle.lists.proofs.Cases.{clash}
 use Rattle.bitset.specs.Places.{IsWithin}
-use Rattle.bitset.specs.Sets.{contains-empty}
 use Rattle.closure_flow.specs.declared.queue.Entry.{Entry}
 use Rattle.closure_flow.specs.Closures.{parents_at}
 use Rattle.closure_flow.specs.Networks.{IsAllowed}
@@ -27,37 +25,6 @@ pub record Searching (n : ℕ) (parents : List (set.FinSet nat_cmp)) (within : s
 pub new_or_old : (old new : List Entry) (i : ℕ) → (i < length old) ⊎ (length old ≤ i)
 new_or_old old new i = elim (cases_lt i (length old)) as (λ _. (i < length old) ⊎ (length old ≤ i))
     [ inl less ↦ inl less | inr more ↦ inr (omega (arith, more)) ]
-
-pub searching_start : (n : ℕ) (parents : List (set.FinSet nat_cmp)) (within : set.FinSet nat_cmp) (flow : ℕ → ℕ → ℕ) (rest : ℕ → ℤ) (es : List Entry)
-    (starts seen : set.FinSet nat_cmp)
-    → ((t : ℕ) → set.contains starts t ≡ true → (set.contains within t ≡ true) × (pos 0 <ℤ rest t))
-    → ((t : ℕ) → set.contains within t ≡ true → pos 0 <ℤ rest t → set.contains starts t ≡ true)
-    → Lists es seen → IsWithin n seen → Grows [] es starts None
-    → ((t : ℕ) → set.contains starts t ≡ true → set.contains seen t ≡ true)
-    → ((t : ℕ) → set.contains seen t ≡ true → (set.contains (set.empty {R = nat_cmp}) t ≡ true) ⊎ (set.contains starts t ≡ true))
-    → Searching n parents within flow rest es 0 seen
-searching_start n parents within flow rest es starts seen sound complete l w g new only =
-    record {
-      lists = l;
-      below = w;
-      inside = λ t m. (sound t (is_start t m)).0;
-      search = record {
-        inside = λ i h. (sound _ (g.added i (omega arith) h).0).0;
-        below = λ i h. w _ (l.each i h);
-        once = l.once;
-        start = λ i h e. (sound _ (g.added i (omega arith) h).0).1;
-        step = λ i j h e. absurd (let k : None ≡ Some j = sym (g.added i (omega arith) h).1 ∙ e in cc);
-      };
-      swept = record {
-        starts = λ t m k. new t (complete t m k);
-        content = λ i h. absurd (omega arith);
-        along = λ i p h m k. absurd (omega arith);
-        against = λ i c h k m. absurd (omega arith);
-      };
-    }
-  where
-    is_start : (t : ℕ) → set.contains seen t ≡ true → set.contains starts t ≡ true
-    is_start t m = elim (only t m) as (λ _. set.contains starts t ≡ true) [ inl none ↦ clash _ none (contains-empty t) | inr some ↦ some ]
 
 pub searching_step : (n : ℕ) (parents : List (set.FinSet nat_cmp)) (within : set.FinSet nat_cmp) (flow : ℕ → ℕ → ℕ) (rest : ℕ → ℤ)
     (es es' : List Entry) (k : ℕ) (seen seen' next : set.FinSet nat_cmp)

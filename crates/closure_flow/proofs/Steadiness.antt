@@ -1,6 +1,6 @@
 -- What an amount that went from one place to another leaves.
 use Rattle.std.proofs.Common.{◌≡◌, ℕ, ◌+◌, ◌^◌, ◌<◌, ◌≤◌, inl, inr, List, true, min, ℤ, pos, negsuc, ◌+ℤ◌, ◌-ℤ◌, neg_ℤ, ◌≤ℤ◌}
-use Rattle.std.proofs.Common.{◌<ℤ◌, unsigned_abs, SFits, to_z, of_z, get_or, refl, sym, ap, ◌∙◌, subst, arith}
+use Rattle.std.proofs.Common.{◌<ℤ◌, unsigned_abs, SFits, to_z, of_z, get_or, sym, ap, ◌∙◌, subst, arith}
 use Rattle.std.proofs.lemmas.Bool.{cases_eq}
 use Rattle.std.proofs.lemmas.Int.{ints, to_z-of_z}
 use Rattle.std.specs.Int.{w128}
@@ -107,10 +107,6 @@ pub enough_left : (z : ℤ) (m x : ℕ) → m ≡ unsigned_abs z → pos 0 <ℤ 
 enough_left (pos k) m x e h l = omega (arith, ints, e, l)
 enough_left (negsuc k) m x e h l = absurd (omega (arith, ints, h))
 
-pub lacks_some : (z : ℤ) (m : ℕ) → m ≡ unsigned_abs z → z <ℤ pos 0 → 0 < m
-lacks_some (pos k) m e h = absurd (omega (arith, ints, h))
-lacks_some (negsuc k) m e h = omega (arith, ints, e)
-
 pub has_some : (z : ℤ) (m : ℕ) → m ≡ unsigned_abs z → pos 0 <ℤ z → 0 < m
 has_some (pos k) m e h = omega (arith, ints, e, h)
 has_some (negsuc k) m e h = absurd (omega (arith, ints, h))
@@ -150,14 +146,4 @@ pub same_sent : (n : ℕ) (into into' : List (set.FinSet nat_cmp)) (amounts amou
     → sent n into amounts ≡ sent n into' amounts'
 same_sent n into into' amounts amounts' e f = ap (λ xs. sent n xs amounts) (sym e) ∙ ap (sent n into') (sym f)
 
-pub both_some : (y z : ℤ) (l m : ℕ) → l ≡ unsigned_abs y → m ≡ unsigned_abs z → pos 0 <ℤ y → z <ℤ pos 0 → 0 < min l m
-both_some y z l m e f h k = omega (arith, has_some y l e h, lacks_some z m f k)
-
 -- ---- one improvement after another
-pub improves_none : (n : ℕ) (parents : List (set.FinSet nat_cmp)) (within : set.FinSet nat_cmp) (F : ℕ → ℕ → ℕ) (r : ℕ → ℤ)
-    → IsSteady n parents within F r → Improves n parents within F r F r
-improves_none n parents within F r s = record { steady = s; keeps = λ t h. refl }
-
-pub improves_more : (n : ℕ) (parents : List (set.FinSet nat_cmp)) (within : set.FinSet nat_cmp) (F G H : ℕ → ℕ → ℕ) (r s u : ℕ → ℤ)
-    → Improves n parents within F r G s → Improves n parents within G s H u → Improves n parents within F r H u
-improves_more n parents within F G H r s u a b = record { steady = b.steady; keeps = λ t h. b.keeps t h ∙ a.keeps t h }

@@ -1,8 +1,8 @@
 -- Lists of names that are some of the components of what is left of a graph.
-use Rattle.std.proofs.Common.{◌≡◌, ◌≢◌, ◌↔◌, ◌⊎◌, ℕ, zero, suc, ◌+◌, ◌*◌, ◌^◌, ◌<◌, ◌≤◌, List, [], ◌∷◌, ◌++◌, length, map, get_or, Contains, inl, inr, refl, sym, ap, ◌∙◌, subst, arith, length-append}
+use Rattle.std.proofs.Common.{◌≡◌, ◌≢◌, ◌↔◌, ◌⊎◌, ℕ, suc, ◌+◌, ◌*◌, ◌^◌, ◌<◌, ◌≤◌, List, [], ◌∷◌, ◌++◌, length, map, get_or, Contains, inl, inr, sym, ap, ◌∙◌, subst, arith}
 use Rattle.std.specs.Prelude.{sum_by}
 use Rattle.std.specs.List.{flat_map, AllPairs}
-use Rattle.std.proofs.lemmas.List.Sums.{sum_by-append}
+use Rattle.std.proofs.lemmas.List.Sums.{sum_by-append, sum_by-cons}
 use Rattle.std.proofs.lemmas.List.Elements.{Contains-append_cases, Contains-append_left, Contains-append_right, Contains-push_cases}
 use Rattle.std.proofs.lemmas.List.{map_push}
 use Rattle.lists.proofs.Distinct.{distinct_within, distinct_joined}
@@ -19,7 +19,7 @@ use Rattle.cluster.specs.Steps.{most_steps, most_steps_of, GrowsWithin}
 -- ---- lists apart
 
 -- no entry of one list is in a later one
-pub AreApartLists : List (List ℕ) → Type 0
+unfoldable pub AreApartLists : List (List ℕ) → Type 0
 AreApartLists [] = Unit {0}
 AreApartLists (m ∷ ms) = ((k : List ℕ) → Contains ms k → (x : ℕ) → Contains m x → Contains k x → ⊥) × AreApartLists ms
 
@@ -64,41 +64,43 @@ pub record IsOneOf (g : Closure) (gone ids : List ℕ) : Type 0 where
   pub whole : (a b : ℕ) → Contains ids a → Contains ids b → Walk (AreNearLeft g gone) a b
   pub alone : (a b : ℕ) → Contains ids a → AreNearLeft g gone a b → Contains ids b
 
--- one of some lists has the same entries, and is as long
-record IsMatched (lists : List (List ℕ)) (m : List ℕ) : Type 0 where
-  list : List ℕ
-  there : Contains lists list
-  same : (x : ℕ) → Contains m x ↔ Contains list x
-  long : length m ≡ length list
+-- what a list costs goes by its entries, in whatever order they stand
+abbrev pub GoesByEntries : (List ℕ → ℕ) → Type 0
+GoesByEntries cost = (m k : List ℕ) → AreDistinct m → AreDistinct k → ((x : ℕ) → Contains m x ↔ Contains k x) → cost m ≡ cost k
 
-matched : (g : Closure) (gone : List ℕ) (lists : List (List ℕ)) (m : List ℕ) → AreComponents g gone lists → IsOneOf g gone m → IsMatched lists m
-matched g gone lists m all one =
-    let x : ℕ = one.some.0 in
-    let here : Contains m x = one.some.1 in
-    let at = flat_of (λ (ids : List ℕ). ids) lists x ((all.exact x).1 (one.left x here)) in
-    let into : (y : ℕ) → Contains m y → Contains at.0 y =
-    λ y held. Walk-keeps (AreNearLeft g gone) (Contains at.0) (λ a b step there. all.alone at.0 at.1 a b there step) x y (one.whole x y here held) at.2 in
-    let from : (y : ℕ) → Contains at.0 y → Contains m y =
-    λ y held. Walk-keeps (AreNearLeft g gone) (Contains m) (λ a b step there. one.alone a b there step) x y (all.whole at.0 at.1 x y at.2 held) here in
-    let up : length m ≤ length at.0 = (distinct_within (λ (x : ℕ). x) m at.0 one.once into).0 in
-    let down : length at.0 ≤ length m = (distinct_within (λ (x : ℕ). x) at.0 m (flat_part_once (λ (ids : List ℕ). ids) lists at.0 all.once at.1) from).0 in
-    record { list = at.0; there = at.1; same = λ y. (into y, from y); long = omega arith }
+module _ (cost : List ℕ → ℕ) (by_entries : GoesByEntries cost) where
+  -- one of some lists has the same entries, and costs the same
+  record IsMatched (lists : List (List ℕ)) (m : List ℕ) : Type 0 where
+    list : List ℕ
+    there : Contains lists list
+    same : (x : ℕ) → Contains m x ↔ Contains list x
+    equal : cost m ≡ cost list
 
-module _ (w : ℕ → ℕ) where
-  abbrev cost : List (List ℕ) → ℕ
-  cost lists = sum_by (λ ids. w (length ids)) lists
-
-  cost_first : (m : List ℕ) (ms : List (List ℕ)) → cost (m ∷ ms) ≡ w (length m) + cost ms
-  cost_first m ms = sum_by-append (λ (ids : List ℕ). w (length ids)) (m ∷ []) ms ∙ ap (λ k. k + cost ms) (Rattle.std.proofs.Common.zero-add (w (length m)))
+  matched : (g : Closure) (gone : List ℕ) (lists : List (List ℕ)) (m : List ℕ) → AreComponents g gone lists → IsOneOf g gone m → IsMatched lists m
+  matched g gone lists m all one =
+      let x : ℕ = one.some.0 in
+      let here : Contains m x = one.some.1 in
+      let at = flat_of (λ (ids : List ℕ). ids) lists x ((all.exact x).1 (one.left x here)) in
+      let into : (y : ℕ) → Contains m y → Contains at.0 y =
+      λ y held. Walk-keeps (AreNearLeft g gone) (Contains at.0) (λ a b step there. all.alone at.0 at.1 a b there step) x y (one.whole x y here held) at.2 in
+      let from : (y : ℕ) → Contains at.0 y → Contains m y =
+      λ y held. Walk-keeps (AreNearLeft g gone) (Contains m) (λ a b step there. one.alone a b there step) x y (all.whole at.0 at.1 x y at.2 held) here in
+      record {
+        list = at.0;
+        there = at.1;
+        same = λ y. (into y, from y);
+        equal = by_entries m at.0 one.once (flat_part_once (λ (ids : List ℕ). ids) lists at.0 all.once at.1) (λ y. (into y, from y));
+      }
 
   at_most : (done lists : List (List ℕ)) → AreApartLists done → ((m : List ℕ) → Contains done m → (x : ℕ) × Contains m x)
-      → ((m : List ℕ) → Contains done m → IsMatched lists m) → cost done ≤ cost lists
+      → ((m : List ℕ) → Contains done m → IsMatched lists m) → sum_by cost done ≤ sum_by cost lists
   unfolding AreApartLists
   at_most [] lists apart some match = omega arith
   at_most (m ∷ ms) lists apart some match =
       let one : IsMatched lists m = match m (Contains-head m ms) in
       let cut = Contains-splits lists one.list one.there in
-      let rest : cost ms ≤ cost (cut.0 ++ cut.1) = at_most ms (cut.0 ++ cut.1) apart.1 (λ k here. some k (Contains-later m k ms here)) (λ k here.
+      let rest : sum_by cost ms ≤ sum_by cost (cut.0 ++ cut.1) =
+      at_most ms (cut.0 ++ cut.1) apart.1 (λ k here. some k (Contains-later m k ms here)) (λ k here.
       (let other : IsMatched lists k = match k (Contains-later m k ms here) in
       record {
         list = other.list;
@@ -112,22 +114,27 @@ module _ (w : ℕ → ℕ) where
           ]
         ];
         same = other.same;
-        long = other.long;
+        equal = other.equal;
       })) in
-      let whole : cost lists ≡ cost (cut.0 ++ one.list ∷ cut.1) = ap cost cut.2 in
-      let split : cost (cut.0 ++ one.list ∷ cut.1) ≡ cost cut.0 + cost (one.list ∷ cut.1) =
-      sum_by-append (λ (ids : List ℕ). w (length ids)) cut.0 (one.list ∷ cut.1) in
-      let joined : cost (cut.0 ++ cut.1) ≡ cost cut.0 + cost cut.1 = sum_by-append (λ (ids : List ℕ). w (length ids)) cut.0 cut.1 in
-      let same : w (length m) ≡ w (length one.list) = ap w one.long in
-      let first : cost (m ∷ ms) ≡ w (length m) + cost ms = cost_first m ms in
-      let second : cost (one.list ∷ cut.1) ≡ w (length one.list) + cost cut.1 = cost_first one.list cut.1 in
-      omega arith
+      let whole : sum_by cost lists ≡ sum_by cost (cut.0 ++ one.list ∷ cut.1) = ap (λ (zs : List (List ℕ)). sum_by cost zs) cut.2 in
+      let split = sum_by-append cost cut.0 (one.list ∷ cut.1) in
+      let joined = sum_by-append cost cut.0 cut.1 in
+      let first = sum_by-cons cost m ms in
+      let second = sum_by-cons cost one.list cut.1 in
+      omega (arith, rest, whole, split, joined, first, second, one.equal)
 
--- some of the components cost no more than all
-pub bounded : (g : Closure) (gone : List ℕ) (done lists : List (List ℕ)) → AreApartLists done
-    → ((m : List ℕ) → Contains done m → IsOneOf g gone m) → AreComponents g gone lists → most_steps_of done ≤ most_steps_of lists
-bounded g gone done lists apart each all =
-    at_most most_steps done lists apart (λ m here. (each m here).some) (λ m here. matched g gone lists m all (each m here))
+  -- some of the components cost no more than all
+  pub bounded : (g : Closure) (gone : List ℕ) (done lists : List (List ℕ)) → AreApartLists done
+      → ((m : List ℕ) → Contains done m → IsOneOf g gone m) → AreComponents g gone lists → sum_by cost done ≤ sum_by cost lists
+  bounded g gone done lists apart each all =
+      at_most done lists apart (λ m here. (each m here).some) (λ m here. matched g gone lists m all (each m here))
+
+-- the steps that an order takes go by how many names there are
+as_long : GoesByEntries (λ (ids : List ℕ). most_steps (length ids))
+as_long m k once once' same =
+    let up = (distinct_within (λ (x : ℕ). x) m k once (λ x. (same x).0)).0 in
+    let down = (distinct_within (λ (x : ℕ). x) k m once' (λ x. (same x).1)).0 in
+    ap most_steps (omega (arith, up, down))
 
 -- components that hold every name that is left are all
 pub are_components : (g : Closure) (gone : List ℕ) (done : List (List ℕ)) → AreApartLists done → ((m : List ℕ) → Contains done m → IsOneOf g gone m)
@@ -187,7 +194,7 @@ module _ (g : Closure) (gone : List ℕ) (parts : List Cluster) (before now next
       → (lists : List (List ℕ)) → AreComponents g gone lists → next ≤ before + most_steps_of lists
   stopped apart other lists all =
       let bound : most_steps_of (map (λ (c : Cluster). c.names) parts ++ ids ∷ []) ≤ most_steps_of lists =
-      bounded g gone (map (λ (c : Cluster). c.names) parts ++ ids ∷ []) lists
+      bounded (λ (ids : List ℕ). most_steps (length ids)) as_long g gone (map (λ (c : Cluster). c.names) parts ++ ids ∷ []) lists
       (apart_push (map (λ (c : Cluster). c.names) parts) ids (apart_names parts apart) (λ m here x first second. (let at =
       map-Contains (λ (c : Cluster). c.names) parts m here in other at.0 at.1 x (subst (λ (ys : List ℕ). Contains ys x) (sym at.2) first) second)))
       each_more all in
@@ -197,5 +204,5 @@ pub finished : (g : Closure) (gone : List ℕ) (parts : List Cluster) (before no
     → AllPairs AreApart parts → (lists : List (List ℕ)) → AreComponents g gone lists → now ≤ before + most_steps_of lists
 finished g gone parts before now so apart lists all =
     let bound : most_steps_of (map (λ (c : Cluster). c.names) parts) ≤ most_steps_of lists =
-    bounded g gone (map (λ (c : Cluster). c.names) parts) lists (apart_names parts apart) so.each all in
+    bounded (λ (ids : List ℕ). most_steps (length ids)) as_long g gone (map (λ (c : Cluster). c.names) parts) lists (apart_names parts apart) so.each all in
     let most : now ≤ before + most_steps_of (map (λ (c : Cluster). c.names) parts) = so.most in omega arith

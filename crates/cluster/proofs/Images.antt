@@ -1,5 +1,5 @@
 -- Parts by the places of their names, and that what is known by names is known by places.
-use Rattle.std.proofs.Common.{◌≡◌, ◌≢◌, ℕ, ◌-◌, ◌<◌, ◌≤◌, Bool, true, List, [], ◌∷◌, ◌++◌, length, map, take, drop, slice_index, Contains, Some, pos, ◌-ℤ◌, cond, nat_eq, inl, inr, refl, sym, ap, ap₂, ◌∙◌, subst, subst₂, arith, eq-eqb, ne_eqb, length-append, length-drop, append-nil, append_assoc, false, true≢false}
+use Rattle.std.proofs.Common.{◌≡◌, ◌≢◌, ℕ, ◌-◌, ◌<◌, ◌≤◌, Bool, true, List, [], ◌∷◌, ◌++◌, length, map, take, drop, slice_index, Contains, Some, pos, ◌-ℤ◌, cond, nat_eq, inl, inr, refl, sym, ap, ap₂, ◌∙◌, subst, subst₂, arith, eq-eqb, ne_eqb, length-append, length-drop, append-nil, append_assoc}
 use Rattle.std.proofs.lemmas.Bool.{cases_eq}
 use Rattle.std.proofs.lemmas.List.{take-append-le, drop-append-le, take_all, map-append, take-map, drop-map}
 use Rattle.std.proofs.lemmas.List.Elements.{Contains-append_cases}
@@ -285,31 +285,6 @@ part_put names ids own part known whole sure places places' flows flows' parts p
 
 -- ---- places and flows, one by one
 
-pub places_none : (names ids old new : List ℕ) (all : Bool) → ids ≡ [] → new ≡ old → PutsPlaces names ids old new all
-places_none names ids old new all none same = record {
-  more = [];
-  is = same ∙ sym (append-nil old);
-  named = λ _. sym none;
-  below = λ p here. absurd (none_in_empty p here);
-}
-
-pub places_missed : (names ids old new : List ℕ) (all : Bool) → new ≡ old → all ≡ false → PutsPlaces names ids old new all
-places_missed names ids old new all same missed = record {
-  more = [];
-  is = same ∙ sym (append-nil old);
-  named = λ e. absurd (true≢false (sym e ∙ missed));
-  below = λ p here. absurd (none_in_empty p here);
-}
-
-pub places_one : (names old new : List ℕ) (place id : ℕ) (all : Bool) → new ≡ old ++ place ∷ [] → place < length names → slice_index names place ≡ id
-    → PutsPlaces names (id ∷ []) old new all
-places_one names old new place id all is low here = record {
-  more = place ∷ [];
-  is = is;
-  named = λ _. ap (λ x. x ∷ []) here;
-  below = λ p held. subst (λ x. x < length names) (Contains-one place p held) low;
-}
-
 pub places_more : (names ids one old mid new : List ℕ) (all found both : Bool) → PutsPlaces names ids old mid all → PutsPlaces names one mid new found
     → (both ≡ true → (all ≡ true) × (found ≡ true)) → PutsPlaces names (ids ++ one) old new both
 places_more names ids one old mid new all found both first second if_both = record {
@@ -319,13 +294,6 @@ places_more names ids one old mid new all found both first second if_both = reco
       (first.named (if_both e).0) (second.named (if_both e).1);
   below = λ p here. elim (Contains-append_cases first.more second.more p here) [ inl a ↦ first.below p a | inr b ↦ second.below p b ];
 }
-
-pub flows_missed : (flows old new : List Flow) (all : Bool) → new ≡ old → all ≡ false → PutsFlows flows old new all
-flows_missed flows old new all same missed =
-    record { more = []; is = same ∙ sym (append-nil old); all_are = λ e. absurd (true≢false (sym e ∙ missed)) }
-
-pub flows_put : (flows old new : List Flow) (all : Bool) → new ≡ old ++ flows → PutsFlows flows old new all
-flows_put flows old new all is = record { more = flows; is = is; all_are = λ _. refl }
 
 -- ---- the parts of a cluster, one by one
 

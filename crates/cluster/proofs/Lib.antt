@@ -29,7 +29,7 @@ mod Copied
 mod Linking
 mod Joining
 mod Splits
-mod Bounds
+pub mod Bounds
 mod Chosen
 mod Parting
 pub mod Placed

@@ -1,5 +1,5 @@
 -- Facts of a cluster that a call made, and of steps that weren't taken.
-use Rattle.std.proofs.Common.{◌≡◌, ℕ, List, [], ◌++◌, Result, Ok, Err, IfOk, OnOk, ◌∙◌, ap, arith}
+use Rattle.std.proofs.Common.{◌≡◌, ℕ, List, [], ◌++◌, Result, Ok, Err, IfOk, ◌∙◌, ap, arith}
 use Rattle.outside.specs.declared.errors.NoMemory.{NoMemory}
 use Rattle.cluster.specs.Clusters.{Cluster}
 use Rattle.cluster.specs.Steps.{GrowsWithin}
@@ -19,8 +19,3 @@ no_step most n = record { grew = omega arith; few = omega arith }
 -- what is put behind nothing
 pub from_none : {old new added : List ℕ} → new ≡ old ++ added → old ≡ [] → new ≡ added
 from_none {old} {new} {added} new_is none = new_is ∙ ap (λ (xs : List ℕ). xs ++ added) none
-
--- what holds in any case holds where a call gave a value
-pub any_ok : {A : Type 0} (r : Result A NoMemory) (P : Type 0) → P → OnOk r P
-any_ok (Ok a) P p = p
-any_ok (Err e) P p = tt

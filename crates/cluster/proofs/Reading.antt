@@ -122,9 +122,6 @@ module _ (names positions : List ℕ) (qs : List Part) (n : ℕ) (is_placed : Is
           (IsPermutation-map (named_at order) (map (at_positions positions) own) adds.moved adds.same);
     }
 
-    pub read_flows : new ≡ old ++ read.flows
-    read_flows = adds.is
-
 -- ---- parts that were read
 
 pub rates_read : (names whole : List ℕ) (ps qs : List Part) → AreRead (slice_index names) whole ps qs → map (λ part. part.rate) qs ≡ map (λ part. part.rate) ps
@@ -203,20 +200,6 @@ pub record Reading (names order : List ℕ) (qs : List Part) (froms : List (Opti
       → IsReadFrom (slice_index names) order known (get_or froms k None) (get_or qs k no_part) (get_or done k no_part)
   pub flows_are : flows_in done ≡ flows
   pub flow_ends : map (λ (e : PartEnd). e.flow_end) parts ≡ totals 0 (map (λ part. length part.flows) done)
-
-pub Reading-start : (names all : List ℕ) (qs : List Part) (froms : List (Option OldPart)) (known : List Flow) (shown : List LinearPart)
-    (parts : List PartEnd) (flows : List Flow) → parts ≡ [] → flows ≡ [] → Reading names all qs froms known shown 0 0 parts flows
-Reading-start names all qs froms known shown parts flows none no_flows = record {
-  from_is = refl;
-  low = omega arith;
-  rates = ap (map sum_in) none;
-  ends = ap (map (λ (e : PartEnd). e.end)) none;
-  done = [];
-  long = refl;
-  read = λ k below. absurd (omega (arith, below));
-  flows_are = sym no_flows;
-  flow_ends = ap (map (λ (e : PartEnd). e.flow_end)) none;
-}
 
 module _ (qs : List Part) (shown : List LinearPart) (all : List PlaceFlow) (is_shown : AreShown shown qs) (are : map named all ≡ flows_in qs) where
   pub shown_long : length shown ≡ length qs

@@ -6,7 +6,7 @@ ghost use Rattle.cluster.specs.Changes.{IsChosen};
 ghost use Rattle.cluster.specs.Kins.{kin_of};
 ghost use Rattle.cluster.specs.Named.{named, IsNamed};
 
-use crate::places::place_of;
+use crate::members::place_of;
 use bitset::Bits;
 use dep_graph::DepGraph;
 use graphs::{Kin, TxId};

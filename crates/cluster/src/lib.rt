@@ -28,8 +28,8 @@ mod kin;
 mod laws;
 mod list;
 mod making;
+mod members;
 mod order;
-mod places;
 mod work;
 
 pub use ancestors::Ancestors;

@@ -15,8 +15,8 @@ ghost use Rattle.cluster.specs.Guesses.{AreSound};
 
 use crate::cluster::Cluster;
 use crate::guess::guess_part;
+use crate::members::copy_names;
 use crate::order::{Order, lone, read};
-use crate::places::copy_names;
 use crate::work::{Room, Work};
 use bitset::Bits;
 use dep_graph::DepGraph;

@@ -61,16 +61,6 @@ one_held x clusters there = record {
   ];
 }
 
-pub two_held : (x y : Exchange) (clusters : Numbered) → (x.number ≡ y.number → ⊥) → IsSome (finmap.get clusters x.number)
-    → IsSome (finmap.get clusters y.number) → AreHeld (x ∷ y ∷ []) clusters
-two_held x y clusters apart first second = record {
-  once = two_are_distinct x.number y.number apart;
-  there = λ n here. elim (Contains-cases x.number n (y.number ∷ []) here) [
-    | inl same ↦ subst (λ (m : ℕ). IsSome (finmap.get clusters m)) same first
-    | inr later ↦ (one_held y clusters second).there n later
-  ];
-}
-
 -- a number that has a tag has a cluster
 pub held_by : (tag : Option Tag) (clusters : Numbered) (n : ℕ) → IsSome tag
     → MatchOption tag (finmap.get clusters n ≡ None) (λ t. (s : Stored) × (finmap.get clusters n ≡ Some s) × (t ≡ s.tag)) → IsSome (finmap.get clusters n)

@@ -29,17 +29,6 @@ use Rattle.cluster_store.proofs.Shelves.{get_shelved}
 true_false : false ≡ true → ⊥
 true_false e = cc
 
-pub listed_some : (items : Items) (i : Entry × Tag) → Contains items i → IsSome (found items (item_key i))
-unfolding found
-listed_some [] i here = absurd (none_in_empty i here)
-listed_some (x ∷ items) i here = by (same_key (item_key x) (item_key i)) refl (Contains-cases x i items here) (λ later. listed_some items i later)
-  where
-    by : (b : Bool) → same_key (item_key x) (item_key i) ≡ b → (x ≡ i) ⊎ Contains items i → (Contains items i → IsSome (found items (item_key i)))
-        → IsSome (found (x ∷ items) (item_key i))
-    by true s where_it_is rest = rw s refl
-    by false s (inl same) rest = absurd (true_false (sym s ∙ ap (λ (y : Entry × Tag). same_key (item_key y) (item_key i)) same ∙ same_self (item_key i)))
-    by false s (inr later) rest = rw s (rest later)
-
 pub all_at : {X : Type 0} (P : X → Type 0) (xs : List X) (y : X) → AllByRecursion P xs → Contains xs y → P y
 all_at P [] y all here = absurd (none_in_empty y here)
 all_at P (x ∷ xs) y all here = elim (Contains-cases x y xs here) [ inl same ↦ subst P same all.0 | inr later ↦ all_at P xs y all.1 later ]

@@ -4,3 +4,4 @@ mod Kept
 mod Following
 mod Same
 mod Sizes
+pub mod Rooms

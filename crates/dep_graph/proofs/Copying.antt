@@ -1,12 +1,11 @@
 -- The loops that copy what is kept of the places of a set, numbered anew.
-use Rattle.std.proofs.Common.{◌≡◌, ℕ, zero, suc, ◌+◌, ◌-◌, ◌<◌, ◌≤◌, Bool, true, false, cond, ◌&&◌, ◌||◌, nat_eq, List, [], ◌∷◌, ◌++◌, length, filter}
+use Rattle.std.proofs.Common.{◌≡◌, ℕ, ◌+◌, ◌-◌, ◌<◌, ◌≤◌, Bool, true, false, cond, ◌&&◌, ◌||◌, nat_eq, List, [], ◌∷◌, ◌++◌, length}
 use Rattle.std.proofs.Common.{slice_index, inl, inr, refl, sym, ap, ap₂, ◌∙◌, subst, subst₂, arith, eq-eqb, ne_eqb, eqb-true, append_assoc, append-nil}
 use Rattle.std.proofs.Common.{length-append, true≢false}
 use Rattle.std.proofs.lemmas.Bool.{cases_eq, and_parts, or_cases, false_from_ne_true}
 use Rattle.std.proofs.Math.Bool.{and-true}
 use Rattle.std.proofs.lemmas.List.Elements.{Contains-get_or}
 use Rattle.std.proofs.lemmas.List.{get_or_append_left, get_or_push}
-use Rattle.std.specs.List.{range_with_len}
 use Rattle.std.specs.Ordering.{nat_cmp}
 use Rattle.std.specs.FinSet as fin
 use Rattle.lists.proofs.Rising.{at_split}
@@ -16,13 +15,6 @@ use Rattle.dep_graph.specs.declared.rows.Row.{Row}
 use Rattle.dep_graph.specs.Changes.{Copies, CopiesRows, IsRenumbered}
 use Rattle.dep_graph.specs.Moves.{ChangesFrom}
 use Rattle.dep_graph.specs.Rows.{no_row, row_at, holds}
-
-filter_le : (f : ℕ → Bool) (a n : ℕ) → length (filter f (range_with_len a n)) ≤ n
-filter_le f a zero = omega arith
-filter_le f a (suc n) = elim (f a) as (λ b. length (cond b (a ∷ filter f (range_with_len (a + 1) n)) (filter f (range_with_len (a + 1) n))) ≤ suc n) [
-  | true ↦ omega (arith, filter_le f (a + 1) n)
-  | false ↦ omega (arith, filter_le f (a + 1) n)
-]
 
 -- ---- one copy for each place
 

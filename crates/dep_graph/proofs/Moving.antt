@@ -146,9 +146,6 @@ pub record Changing {W : ℕ} (Becomes : Stands) (first : ℕ) (old new : List (
   pub rest : (j : ℕ) → i ≤ j → row_at new j ≡ row_at old j
 
 module _ {W : ℕ} (Becomes : Stands) (first : ℕ) (old : List (Row W)) where
-  pub Changing-start : Changing Becomes first old old first
-  Changing-start = record { long = refl; kept = λ j h. refl; changed = λ j after before. absurd (omega arith); rest = λ j h. refl }
-
   pub Changing-more : (new : List (Row W)) (i : ℕ) (was row : Row W) → first ≤ i → i < length new → was ≡ row_at new i → BothBecome Becomes was row
       → Changing Becomes first old new i → Changing Becomes first old (set new i row) (i + 1)
   Changing-more new i was row after inside is becomes h = record {
@@ -160,9 +157,6 @@ module _ {W : ℕ} (Becomes : Stands) (first : ℕ) (old : List (Row W)) where
         j before from;
     rest = λ j behind. get_or-set_other new i j row no_row (λ e. omega arith) ∙ h.rest j (omega arith);
   }
-
-  pub Changing-all : (new : List (Row W)) (i : ℕ) → length new ≤ i → Changing Becomes first old new i → ChangesFrom Becomes first old new
-  Changing-all new i end h = record { long = h.long; kept = h.kept; changed = λ j from inside. h.changed j from (omega (arith, h.long)) }
 
 -- one change, and then another
 pub ChangesFrom-then : {W : ℕ} (First Second Both : Stands) (first : ℕ) (old mid new : List (Row W))

@@ -1,9 +1,7 @@
 -- Rows as they are read in a slice, and as a slice gives them back to its list.
-use Rattle.std.proofs.Common.{◌≡◌, ℕ, ◌*◌, ◌^◌, ◌<◌, ◌≤◌, List, [], ◌∷◌, ◌++◌, length, set, slice_index_or, take, drop, inl, inr, refl, sym, ap, ◌∙◌, arith}
-use Rattle.std.proofs.Common.{length-append}
+use Rattle.std.proofs.Common.{◌≡◌, ℕ, ◌*◌, ◌^◌, ◌<◌, ◌≤◌, List, [], ◌∷◌, ◌++◌, length, set, slice_index_or, take, drop, inl, refl, sym, ap, ◌∙◌, arith}
 use Rattle.std.proofs.Math.Nat.{mul-le-mul_left}
-use Rattle.std.proofs.lemmas.Bool.{cases_lt}
-use Rattle.std.proofs.lemmas.List.{get_or_read_under, get_or-set_same, get_or-set_other, get_or_push, get_or_append_left, get_or_past, length-set}
+use Rattle.std.proofs.lemmas.List.{get_or_read_under, get_or-set_same, get_or-set_other, length-set}
 use Rattle.std.proofs.Math.Seq.{take-append_seam}
 use Rattle.std.specs.List.{refill}
 use Rattle.dep_graph.specs.declared.rows.Row.{Row}
@@ -42,18 +40,6 @@ PutsAt-set rows p row low = record {
   there = omega (arith, length-set rows p row);
   most = inl (omega (arith, length-set rows p row));
   others = λ q ne. get_or-set_other rows p q row no_row ne;
-}
-
-pub PutsAt-push : {W : ℕ} (rows : List (Row W)) (p : ℕ) (row : Row W) → p ≡ length rows → PutsAt p row rows (rows ++ row ∷ [])
-PutsAt-push rows p row end = record {
-  long = omega (arith, length-append rows (row ∷ []));
-  here = get_or_push rows row no_row p (sym end);
-  there = omega (arith, length-append rows (row ∷ []));
-  most = inr (omega (arith, length-append rows (row ∷ [])));
-  others = λ q ne. elim (cases_lt q (length rows)) as (λ _. row_at (rows ++ row ∷ []) q ≡ row_at rows q) [
-    | inl low ↦ get_or_append_left rows (row ∷ []) no_row q low
-    | inr high ↦ get_or_past (rows ++ row ∷ []) q no_row (omega (arith, length-append rows (row ∷ []))) ∙ sym (get_or_past rows q no_row high)
-  ];
 }
 
 -- rows that take fewer than 2^63 bytes are few

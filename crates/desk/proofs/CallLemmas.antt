@@ -12,11 +12,6 @@ use Rattle.desk.specs.declared.desk.Held.{Held}
 use Rattle.desk.specs.Calls.{Gathers, LacksRoom}
 use Rattle.desk.specs.Numbers.{code_of, kept_of, picked_after}
 
--- a change picks nothing
-pub change_picks : (old : List ℕ) (r : Result (Unit {0}) Refusal) → old ≡ picked_after old (change_reply r)
-change_picks old (Ok done) = refl
-change_picks old (Err why) = refl
-
 -- a search picks nothing, and is told as a change is
 pub names_picks : (old ids : List ℕ) (r : Result (Unit {0}) Refusal) → old ≡ picked_after old (names_reply r ids)
 names_picks old ids (Ok done) = refl

@@ -1,5 +1,4 @@
 pub mod Lists
-pub mod CheckLemmas
 pub mod PoolLemmas
 pub mod CallLemmas
 pub mod FactLemmas

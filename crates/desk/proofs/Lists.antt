@@ -1,10 +1,9 @@
 -- What iterators gave, and lists that are made of it.
-use Rattle.std.proofs.Common.{◌≡◌, ℕ, List, [], ◌∷◌, ◌++◌, map, Option, None, refl, sym, ap, subst, ◌∙◌, append_assoc, append-nil}
+use Rattle.std.proofs.Common.{◌≡◌, ℕ, List, [], ◌∷◌, ◌++◌, map, sym, ap, ◌∙◌, append_assoc, append-nil}
 use Rattle.std.specs.Prelude.{flat_map, length}
 use Rattle.std.proofs.lemmas.List.{map-append}
 use Rattle.std.proofs.lemmas.List.Concat.{flat_map-append}
 use Rattle.std.specs.Borrow.{Bor}
-use Rattle.std.specs.Iterator.{AlwaysYields, Yields}
 use Rattle.cluster.specs.Clusters.{Cluster}
 use Rattle.graphs.specs.Certificates.{Part}
 use Rattle.desk.specs.declared.listing.Groups.{Groups}
@@ -20,17 +19,6 @@ rest_on f all given now next x is step =
 -- where nothing is left, what it gave is all
 pub gave_all : {A : Type 0} (all front rest : List A) → all ≡ front ++ rest → rest ≡ [] → front ≡ all
 gave_all {A} all front rest is none = sym (is ∙ ap (λ (more : List A). front ++ more) none ∙ append-nil front)
-
--- what an iterator gave until it gave no more is all that it gives
-pub all_given : {S A : Type 0} (steps : S → Option A → S → Type 0) (s t u : S) (xs list : List A) → AlwaysYields steps (λ x. x) s list
-    → Yields steps s xs t → steps t None u → list ≡ xs
-all_given steps s t u [] [] always yields ends = refl
-all_given steps s t u [] (y ∷ list) always yields ends = absurd (always.0 u (subst (λ k. steps k None u) (sym yields) ends))
-all_given steps s t u (x ∷ xs) [] always yields ends = absurd (always x yields.0 yields.1)
-all_given steps s t u (x ∷ xs) (y ∷ list) always yields ends =
-    let first = always.1 x yields.0 yields.1 in
-    let rest = all_given steps yields.0 t u xs list first.1 yields.2 ends in
-    λ i. sym first.0 i ∷ rest i
 
 flat_map_push : {B C : Type 0} (g : B → List C) (given : List B) (x : B) → flat_map g (given ++ x ∷ []) ≡ flat_map g given ++ g x
 flat_map_push g given x = flat_map-append g given (x ∷ []) ∙ ap (λ (ys : List _). flat_map g given ++ ys) (append-nil (g x))

@@ -15,7 +15,7 @@ use Rattle.fee_rate.specs.Limits.{InRange}
 use Rattle.fee_rate.specs.Rates.{Same, ComparesRates}
 use Rattle.graphs.specs.Diagrams.{height_at}
 use Rattle.diagram.specs.declared.sides.Side.{Side}
-use Rattle.diagram.specs.Points.{Rises, YieldsCorners}
+use Rattle.diagram.specs.Points.{Rises}
 use Rattle.diagram.specs.Comparisons.{height_from, ArePoints, HasPoints, IsInRange, StandAt, Moves}
 use Rattle.diagram.proofs.StepLemmas.{step_some, step_none}
 use Rattle.diagram.proofs.HeightLemmas.{height_some, corner_height, fee_of}
@@ -34,17 +34,6 @@ pub points_advance : {S : Type 0} (steps : S → Option (ℕ × ℤ) → S → T
 points_advance steps side next t r points to step has =
     let known = subst (λ o. ArePoints side.line.from o (AlwaysYields steps (λ corner. corner) side.rest) points) to has in
     (side.line.from, known.0, known.1, points_next steps side.rest t r next known.0 known.2 step)
-
--- the first corner, where there is one
-pub points_start : {S : Type 0} (steps : S → Option (ℕ × ℤ) → S → Type 0) (s t u : S) (from : ℕ × ℤ) (r : Option (ℕ × ℤ)) (points : List (ℕ × ℤ))
-    → steps s (Some from) t → steps t r u → AlwaysYields steps (λ corner. corner) s points
-    → ArePoints from r (AlwaysYields steps (λ corner. corner) u) points
-points_start steps s t u from r points one two yields =
-    let found = step_some steps (λ corner. corner) s t from points yields one in
-    subst (λ zs. ArePoints from r (AlwaysYields steps (λ corner. corner) u) zs) (sym found.1) (points_next steps t u r from found.0 found.2 two)
-
-pub never_empty : {S : Type 0} (steps : S → Option (ℕ × ℤ) → S → Type 0) (s t : S) (points : List (ℕ × ℤ)) → steps s None t → YieldsCorners steps s points → ⊥
-never_empty steps s t points step corners = not_empty (sym corners.level.begins.1 ∙ step_none steps (λ corner. corner) s t points corners.yields step)
 
 -- ---- ranges
 first_in_range : (from : ℕ × ℤ) (to : Option (ℕ × ℤ)) (Behind : List (ℕ × ℤ) → Type 0) (points : List (ℕ × ℤ)) (x : ℕ)

@@ -227,17 +227,6 @@ count_after can left s t Unknown goes = absurd goes
 count_after can left s t (Part first) goes = (goes.1, omega (arith, goes.2))
 count_after can left s t End goes = (tt, omega arith)
 
-pub first_goes : {S : Type 0} (can : S → Type 0) (steps : S → Option FeeRate → S → Type 0) (left : S → Count) (s t : Corners S)
-    → CanGoOn can steps left s → s.ahead ≡ Unknown → t.end ≡ s.end
-    → ((rest : List Sum) → AlwaysYields steps rate_of s.parts rest → AreLeft steps t rest)
-    → WhereTaken t.ahead (IsNearerEnd can left s.parts t.parts) → CanGoOn can steps left t
-first_goes can steps left s t go ahead end rests goes = record {
-  callable = callable_after can left s.parts t.parts t.ahead goes;
-  rest = go.rest;
-  are = rests go.rest (subst (λ a. AreAhead a (AlwaysYields steps rate_of s.parts) go.rest) ahead go.are);
-  level = subst (λ e. FitBehind e go.rest) (sym end) go.level;
-}
-
 pub later_goes : {S : Type 0} (can : S → Type 0) (steps : S → Option FeeRate → S → Type 0) (left : S → Count) (first : Sum) (s t : Corners S)
     → CanGoOn can steps left s → s.ahead ≡ Part first
     → ((more : List Sum) → AlwaysYields steps rate_of s.parts more → TakesSegment steps s.end first more t)

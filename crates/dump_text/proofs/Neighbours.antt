@@ -23,7 +23,8 @@ use Rattle.graph_model.proofs.EdgeLemmas.{followed}
 use Rattle.links.specs.Links.{AreInRange}
 use Rattle.dump_text.specs.Testing.{IsBefore}
 use Rattle.dump_text.proofs.Covering.{edge_at}
-use Rattle.dump_text.proofs.Rising.{IsNoLater, edges_rise, ends, pair_cmp, pair_total}
+use Rattle.lists.proofs.Pairs.{pair_cmp, pair_total}
+use Rattle.dump_text.proofs.Rising.{IsNoLater, edges_rise, ends}
 
 -- ---- transactions
 

@@ -1,19 +1,16 @@
 -- Lists that were sorted.
-use Rattle.std.proofs.Common.{◌≡◌, ℕ, suc, ◌+◌, ◌<◌, ◌≤◌, false, cond, nat_eq, List, [], ◌∷◌, ◌++◌, length, map, get_or, slice_index_or, Contains, inl, inr, ◌⊎◌, sym, ap, ◌∙◌, subst, arith, lt-ltb, le-ltb, eq-eqb, true≢false, length-append}
-use Rattle.std.proofs.lemmas.Bool.{cases_order, cases_lt, cases_eq}
-use Rattle.std.proofs.lemmas.Cmp.{on_total, then_total}
+use Rattle.std.proofs.Common.{◌≡◌, ℕ, suc, ◌+◌, ◌<◌, ◌≤◌, List, [], ◌∷◌, ◌++◌, length, map, get_or, slice_index_or, Contains, inl, inr, ◌⊎◌, sym, ap, ◌∙◌, subst, arith, length-append}
+use Rattle.std.proofs.lemmas.Bool.{cases_eq}
 use Rattle.std.proofs.lemmas.List.Elements.{Contains-append_left, Contains-append_right, Contains-append_cases}
 use Rattle.std.proofs.lemmas.List.Sorted.{sorted_far, ranks_by, length_permutation, Contains-permutation, IsPermutation-sym}
 use Rattle.std.proofs.lemmas.List.{get_or-map, get_or_append_left, length-map}
 use Rattle.std.proofs.Math.Seq.{get_or-append_seam}
-use Rattle.std.specs.declared.cmp.Ordering.{Ordering}
-use Rattle.std.specs.declared.cmp.Ordering.TheVariants.{Less, Equal, Greater}
-use Rattle.std.specs.Cmp.{nat_cmp_total, IsTotalOrder}
 use Rattle.std.specs.List.Sorted.{IsSortedByKey, IsNonDecreasingBy, IsStrictlyIncreasing, IsPermutation}
-use Rattle.std.specs.Ordering.{nat_cmp, ordering_then, is_lt}
+use Rattle.std.specs.Ordering.{is_lt}
 use Rattle.lists.specs.Distinct.{AreDistinct}
 use Rattle.lists.proofs.Entries.{Contains-head, Contains-later, Contains-cases, Contains-between, Contains-splits}
 use Rattle.lists.proofs.Distinct.{distinct_within, distinct_without, places_apart}
+use Rattle.lists.proofs.Pairs.{pair_cmp, pair_total, no_later}
 use Rattle.graph_model.specs.Dumps.{EdgesRise}
 
 -- ---- edges
@@ -28,31 +25,6 @@ NoneFalls edges = (i j : ℕ) (d : ℕ × ℕ) → i < j → j < length edges �
 
 abbrev pub ends : ℕ × ℕ → ℕ × ℕ
 ends edge = (edge.1, edge.0)
-
-abbrev pub pair_cmp : ℕ × ℕ → ℕ × ℕ → Ordering
-pair_cmp x y = ordering_then (nat_cmp x.0 y.0) (nat_cmp x.1 y.1)
-
-pub pair_total : IsTotalOrder pair_cmp
-pair_total = then_total (on_total (λ (p : ℕ × ℕ). p.0) nat_cmp_total) (on_total (λ (p : ℕ × ℕ). p.1) nat_cmp_total)
-
-cmp_less : (x y : ℕ) → x < y → nat_cmp x y ≡ Less
-cmp_less x y low = ap (λ b. cond b Less (cond (nat_eq x y) Equal Greater)) (lt-ltb x y low)
-
-cmp_equal : (x y : ℕ) → x ≡ y → nat_cmp x y ≡ Equal
-cmp_equal x y same =
-    ap (λ b. cond b Less (cond (nat_eq x y) Equal Greater)) (le-ltb x y (omega arith)) ∙ ap (λ b. cond b Equal Greater) (eq-eqb x y same)
-
-no_later : (a b p q : ℕ) → is_lt (ordering_then (nat_cmp b a) (nat_cmp q p)) ≡ false → (a < b) ⊎ ((a ≡ b) × (p ≤ q))
-no_later a b p q e = elim (cases_order a b) as (λ _. (a < b) ⊎ ((a ≡ b) × (p ≤ q))) [
-  | inl same ↦ elim (cases_lt q p) as (λ _. (a < b) ⊎ ((a ≡ b) × (p ≤ q))) [
-    | inl low ↦ absurd (true≢false (sym (ap is_lt (ap (λ o. ordering_then o (nat_cmp q p)) (cmp_equal b a (sym same)) ∙ cmp_less q p low)) ∙ e))
-    | inr high ↦ inr (same, high)
-  ]
-  | inr other ↦ elim other as (λ _. (a < b) ⊎ ((a ≡ b) × (p ≤ q))) [
-    | inl low ↦ inl low
-    | inr high ↦ absurd (true≢false (sym (ap (λ o. is_lt (ordering_then o (nat_cmp q p))) (cmp_less b a high)) ∙ e))
-  ]
-]
 
 pub none_falls : (edges : List (ℕ × ℕ)) → IsSortedByKey ends pair_cmp edges → NoneFalls edges
 none_falls edges sorted i j d before below =

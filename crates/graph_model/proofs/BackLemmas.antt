@@ -5,7 +5,6 @@ use Rattle.lists.proofs.Told.{told_number}
 use Rattle.graphs.specs.Graphs.{Graph, Walk, IsAncestor, HasNoCycle, IsGraph}
 use Rattle.graphs.specs.Drops.{HasParents, DropsNames}
 use Rattle.graphs.proofs.WalkLemmas.{walk_of_pair, walk_within, IsAncestor-trans}
-use Rattle.graphs.proofs.DropLemmas.{graph_left}
 use Rattle.graph_model.specs.Changes.{PutsNames}
 
 -- ---- walks
@@ -110,7 +109,3 @@ module _ (was old new : Graph) (ids : List ℕ) (more : List (ℕ × ℕ)) (grap
     λ walk. (walk.0, walk_within was.pairs new.pairs pair_back a b walk.0 walk.1),
     λ walk. ancestors_along new.pairs was.pairs new_pair a b walk.0 walk.1,
   )
-
-  pub graph_back : IsGraph new
-  graph_back = graph_put old new ids more puts (graph_left was old ids drops graph) (λ id listed left. ((drops.names id).0 left).1 listed)
-      (λ a b pair. ((kept a b).0 pair).0) (no_cycle_along more was.pairs graph.acyclic (λ a b pair. let is = (kept a b).0 pair in (is.1, is.2)))

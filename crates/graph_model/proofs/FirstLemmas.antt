@@ -1,8 +1,8 @@
 -- The first entry of a list with a property.
-use Rattle.std.proofs.Common.{◌≡◌, ℕ, List, [], ◌∷◌, ◌++◌, sym, refl, ap, subst}
+use Rattle.std.proofs.Common.{◌≡◌, ℕ, List, [], ◌∷◌, ◌++◌, sym, refl, ap, subst, inl, inr, ◌⊎◌}
 use Rattle.std.specs.Prelude.{Contains}
 use Rattle.std.proofs.lemmas.List.Elements.{Contains-append_right}
-use Rattle.lists.proofs.Entries.{first_of, rest_of, Contains-head, Contains-later, Contains-splits}
+use Rattle.lists.proofs.Entries.{first_of, rest_of, Contains-head, Contains-later, Contains-splits, none_in_empty, Contains-cases}
 use Rattle.lists.specs.Distinct.{AreDistinct}
 use Rattle.graph_model.specs.Refusals.{IsFirst}
 
@@ -65,3 +65,36 @@ none_twice (x ∷ xs) none = (
   λ here. let cut = Contains-splits xs x here in none (x ∷ cut.0) cut.1 x (ap (λ ys. x ∷ ys) cut.2) (Contains-head x cut.0),
   none_twice xs (λ before after n at here. none (x ∷ before) after n (ap (λ ys. x ∷ ys) at) (Contains-later x n before here)),
 )
+
+-- the first entry with a property that can be told of each, or none has it
+pub first_or_none : (P : ℕ → Type 0) → (xs : List ℕ) → ((x : ℕ) → Contains xs x → P x ⊎ (P x → ⊥))
+    → ((id : ℕ) × IsFirst (λ before id. P id) xs id) ⊎ ((x : ℕ) → Contains xs x → P x → ⊥)
+first_or_none P [] told = inr (λ x none. absurd (none_in_empty x none))
+first_or_none P (y ∷ ys) told = elim (told y (Contains-head y ys)) [
+  | inl at_once ↦ inl (y, record { before = []; after = ys; cut = refl; has = at_once; earlier = no_front })
+  | inr not_yet ↦ elim (first_or_none P ys (λ x here. told x (Contains-later y x ys here))) [
+    | inl found ↦ inl (
+      found.0,
+      record {
+        before = y ∷ found.1.before;
+        after = found.1.after;
+        cut = ap (λ (zs : List ℕ). y ∷ zs) found.1.cut;
+        has = found.1.has;
+        earlier = none_before y found.0 ys not_yet found.1;
+      },
+    )
+    | inr none ↦ inr (λ x here holds. elim (Contains-cases y x ys here) [
+      | inl same ↦ not_yet (subst P (sym same) holds)
+      | inr later ↦ none x later holds
+    ])
+  ]
+]
+  where
+    no_front : (front rest : List ℕ) (other : ℕ) → [] ≡ front ++ other ∷ rest → P other → ⊥
+    no_front [] rest other e held = cc
+    no_front (z ∷ zs) rest other e held = cc
+
+    none_before : (y id : ℕ) (ys : List ℕ) → (P y → ⊥) → (first : IsFirst (λ before q. P q) ys id) → (front rest : List ℕ) (other : ℕ)
+        → y ∷ first.before ≡ front ++ other ∷ rest → P other → ⊥
+    none_before y id ys not_yet first [] rest other e held = not_yet (subst P (sym (first_of e)) held)
+    none_before y id ys not_yet first (z ∷ zs) rest other e held = first.earlier zs rest other (rest_of e) held

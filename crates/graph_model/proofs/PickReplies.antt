@@ -191,15 +191,6 @@ module _ (a b : PlainState) (same : IsSameState a b) where
 
 -- ---- replies
 
-pub reads_told : (command : Command) → ReadsNoPick command ⊎ (ReadsNoPick command → ⊥)
-reads_told Evict = inr (λ none. none)
-reads_told (Order level) = inr (λ none. none)
-reads_told (Proof level) = inr (λ none. none)
-reads_told (Chunk id) = inr (λ none. none)
-reads_told (Before x y) = inr (λ none. none)
-reads_told (Block size) = inr (λ none. none)
-reads_told _ = inl tt
-
 module _ (picks : Picks) (a b : PlainState) (valid_a : IsValid a) (valid_b : IsValid b) (picks_a : ArePicks a picks) (picks_b : ArePicks b picks)
     (same : IsSameState a b) where
   main_linked : (x y : ℕ) → AreConnected a.main.pairs x y ↔ AreConnected b.main.pairs x y

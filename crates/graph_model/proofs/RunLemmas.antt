@@ -6,7 +6,7 @@ use Rattle.graph_model.specs.States.{PlainState, Picks, State}
 use Rattle.graph_model.specs.Commands.{Command, SetLimits, Add, Dep, SetFee, Remove, Mine, Evict, Stage, Commit, Abort, Settle, Trim, Unmine, Dump, Compare, Order, Diagram, Proof, Cluster, Ancestors, Descendants, Chunk, Before, Block, Count}
 use Rattle.graph_model.specs.Replies.{Reply, Refused}
 use Rattle.graph_model.specs.Answers.{Answers}
-use Rattle.graph_model.specs.Steps.{StepBy, PlainStep, Step, MayLackMemory, MayGiveWay}
+use Rattle.graph_model.specs.Steps.{StepBy, Step, MayLackMemory, MayGiveWay}
 use Rattle.graph_model.specs.Runs.{RunBy}
 use Rattle.graph_model.proofs.RowLemmas.{no_memory_in_row}
 
@@ -59,9 +59,6 @@ keeps refuses accepts old new command why none step = elim step [
 
 pub refused_keeps_state : (old new : State) (command : Command) (why : Refusal) → Step old command (Refused why) new → new ≡ old
 refused_keeps_state old new command why = keeps _ _ old new command why (λ accepts. no_accepted_refusal old.picks old.plain command why accepts.plain.answer)
-
-pub refused_keeps_plain : (picks : Picks) (old new : PlainState) (command : Command) (why : Refusal) → PlainStep picks old command (Refused why) new → new ≡ old
-refused_keeps_plain picks old new command why = keeps _ _ old new command why (λ accepts. no_accepted_refusal picks old command why accepts.answer)
 
 reason : (why : Refusal) → Refused why ≡ Refused Memory → why ≡ Memory
 reason why is = cc

@@ -1,5 +1,5 @@
 -- Trimming: that there is one set of names which it drops, and that it drops nothing where no component is over the limits.
-use Rattle.std.proofs.Common.{◌≡◌, ◌⊎◌, ℕ, suc, zero, ◌+◌, ◌<◌, ◌≤◌, length, get_or, Bool, true, false, List, [], ◌∷◌, ◌++◌, map, inl, inr, refl, sym, ap, ◌∙◌, subst, append_assoc, append-nil, arith}
+use Rattle.std.proofs.Common.{◌≡◌, ◌⊎◌, ℕ, suc, zero, ◌+◌, ◌<◌, ◌≤◌, length, get_or, Bool, true, false, List, [], ◌∷◌, ◌++◌, map, inl, inr, refl, sym, ap, ◌∙◌, subst, append_assoc, append-nil, arith, ◌↔◌}
 use Rattle.std.specs.Prelude.{Contains, filter}
 use Rattle.std.specs.List.Sorted.{IsStrictlyIncreasing}
 use Rattle.std.proofs.lemmas.Bool.{cases_eq}
@@ -18,7 +18,8 @@ use Rattle.graphs.proofs.WalkLemmas.{walk_cons, AreConnected-sym, AreConnected-t
 use Rattle.graph_model.specs.Limits.{Bounds}
 use Rattle.graph_model.specs.Oversize.{HasOver}
 use Rattle.graph_model.specs.SameLaws.{IsSameGraph}
-use Rattle.graph_model.specs.Trims.{kept_of, IsCandidate, GoesFirst, StaysWithin, AreMarked, IsTrimmed}
+use Rattle.graph_model.specs.Trims.{kept_of, IsCandidate, GoesFirst, StaysWithin, AreMarked, IsTrimmed, PairsAmong}
+use Rattle.graph_model.proofs.LevelLemmas.{IsTold, both_told}
 
 -- ---- names that were looked at, and those that are kept
 
@@ -302,3 +303,48 @@ trimmed_nothing bounds rate graph (x ∷ xs) whole none trimmed =
     let kept : entry.0 ≡ true = turn.2.1 (within_all bounds rate graph whole none (kept_of cut.0) id turn.0.named) in
     entry_kept trimmed.marked id (subst (λ (m : Bool). Contains trimmed.marked (id, m)) kept entry.1))
     x left.0 left.1)
+
+-- ---- pairs among names
+
+-- the entries with a property that can be told
+some_entries : {A : Type 0} (P : A → Type 0) → ((x : A) → IsTold (P x)) → (xs : List A) → (some : List A) × ((x : A) → Contains some x ↔ (Contains xs x × P x))
+some_entries P told [] = ([], λ x. (λ here. absurd (none_in_empty x here), λ is. is.0))
+some_entries {A = A} P told (y ∷ xs) =
+    let rest : (some : List A) × ((x : A) → Contains some x ↔ (Contains xs x × P x)) = some_entries P told xs in
+    elim (told y) [
+      | inl is ↦ (
+        y ∷ rest.0,
+        λ x. (
+          λ here. elim (Contains-cases y x rest.0 here) [
+            | inl same ↦ subst (λ z. Contains (y ∷ xs) z × P z) same (Contains-head y xs, is)
+            | inr later ↦ let found = (rest.1 x).0 later in (Contains-later y x xs found.0, found.1)
+          ],
+          λ both. elim (Contains-cases y x xs both.0) [
+            | inl same ↦ subst (Contains (y ∷ rest.0)) same (Contains-head y rest.0)
+            | inr later ↦ Contains-later y x rest.0 ((rest.1 x).1 (later, both.1))
+          ],
+        ),
+      )
+      | inr isnt ↦ (
+        rest.0,
+        λ x. (
+          λ here. let found = (rest.1 x).0 here in (Contains-later y x xs found.0, found.1),
+          λ both. elim (Contains-cases y x xs both.0) [
+            | inl same ↦ absurd (isnt (subst P (sym same) both.1))
+            | inr later ↦ (rest.1 x).1 (later, both.1)
+          ],
+        ),
+      )
+    ]
+
+-- the pairs among some names
+pub some_among : (pairs : List (ℕ × ℕ)) (ids : List ℕ) → (some : List (ℕ × ℕ)) × PairsAmong pairs ids some
+some_among pairs ids =
+    let found = some_entries (λ (pair : ℕ × ℕ). Contains ids pair.0 × Contains ids pair.1)
+    (λ pair. both_told _ _ (told_number ids pair.0) (told_number ids pair.1)) pairs in (
+      found.0,
+      λ a b. (
+        λ here. let is = (found.1 (a, b)).0 here in (is.0, is.1.0, is.1.1),
+        λ is. (found.1 (a, b)).1 (is.0, (is.1, is.2)),
+      ),
+    )

@@ -8,7 +8,7 @@ use Rattle.std.proofs.lemmas.List.Elements.{Contains-append_cases, Contains-push
 use Rattle.lists.specs.Distinct.{AreDistinct}
 use Rattle.lists.proofs.Distinct.{distinct_within, distinct_push}
 use Rattle.lists.proofs.Told.{told_number}
-use Rattle.lists.proofs.Entries.{Contains-head, Contains-later, Contains-cases, none_in_empty, first_of, rest_of}
+use Rattle.lists.proofs.Entries.{Contains-head, Contains-later, Contains-cases, none_in_empty, push_cases}
 use Rattle.fee_rate.specs.declared.rates.Sum.{Sum}
 use Rattle.fee_rate.specs.Rates.{Same}
 use Rattle.fee_rate.proofs.Orders.{total, below_at_most, same_at_most, same_back, at_most_below, below_at_most_chains, same_chains}
@@ -19,9 +19,9 @@ use Rattle.graphs.proofs.ListLemmas.{Lists-same, Lists-for}
 use Rattle.graphs.proofs.WalkLemmas.{AreConnected-sym, AreConnected-trans}
 use Rattle.graph_model.specs.Limits.{Bounds, AreOver}
 use Rattle.graph_model.specs.Oversize.{HasOver, AreOfOneComponent}
-use Rattle.graph_model.specs.Trims.{kept_of, IsCandidate, GoesFirst, PairsAmong, StaysWithin, AreMarked, IsTrimmed}
+use Rattle.graph_model.specs.Trims.{kept_of, IsCandidate, GoesFirst, StaysWithin, AreMarked, IsTrimmed}
 use Rattle.graph_model.proofs.LevelLemmas.{IsTold, both_told, either_told, connected_told, some_list}
-use Rattle.graph_model.proofs.TrimLemmas.{Marks, looked_at, kept_entry, entry_kept, told_some, along_trail, connected_more}
+use Rattle.graph_model.proofs.TrimLemmas.{Marks, looked_at, kept_entry, entry_kept, told_some, along_trail, connected_more, some_among}
 
 -- ---- lists that there are
 
@@ -31,48 +31,6 @@ not_told P (inr isnt) = inl isnt
 
 less_told : (a b : ℕ) → IsTold (a < b)
 less_told a b = elim (cases_lt a b) [ inl less ↦ inl less | inr past ↦ inr (λ less. omega (arith, past, less)) ]
-
--- the entries with a property that can be told
-some_entries : {A : Type 0} (P : A → Type 0) → ((x : A) → IsTold (P x)) → (xs : List A) → (some : List A) × ((x : A) → Contains some x ↔ (Contains xs x × P x))
-some_entries P told [] = ([], λ x. (λ here. absurd (none_in_empty x here), λ is. is.0))
-some_entries {A = A} P told (y ∷ xs) =
-    let rest : (some : List A) × ((x : A) → Contains some x ↔ (Contains xs x × P x)) = some_entries P told xs in
-    elim (told y) [
-      | inl is ↦ (
-        y ∷ rest.0,
-        λ x. (
-          λ here. elim (Contains-cases y x rest.0 here) [
-            | inl same ↦ subst (λ z. Contains (y ∷ xs) z × P z) same (Contains-head y xs, is)
-            | inr later ↦ let found = (rest.1 x).0 later in (Contains-later y x xs found.0, found.1)
-          ],
-          λ both. elim (Contains-cases y x xs both.0) [
-            | inl same ↦ subst (Contains (y ∷ rest.0)) same (Contains-head y rest.0)
-            | inr later ↦ Contains-later y x rest.0 ((rest.1 x).1 (later, both.1))
-          ],
-        ),
-      )
-      | inr isnt ↦ (
-        rest.0,
-        λ x. (
-          λ here. let found = (rest.1 x).0 here in (Contains-later y x xs found.0, found.1),
-          λ both. elim (Contains-cases y x xs both.0) [
-            | inl same ↦ absurd (isnt (subst P (sym same) both.1))
-            | inr later ↦ (rest.1 x).1 (later, both.1)
-          ],
-        ),
-      )
-    ]
-
-some_among : (pairs : List (ℕ × ℕ)) (ids : List ℕ) → (some : List (ℕ × ℕ)) × PairsAmong pairs ids some
-some_among pairs ids =
-    let found = some_entries (λ (pair : ℕ × ℕ). Contains ids pair.0 × Contains ids pair.1)
-    (λ pair. both_told _ _ (told_number ids pair.0) (told_number ids pair.1)) pairs in (
-      found.0,
-      λ a b. (
-        λ here. let is = (found.1 (a, b)).0 here in (is.0, is.1.0, is.1.1),
-        λ is. (found.1 (a, b)).1 (is.0, (is.1, is.2)),
-      ),
-    )
 
 -- a number above all of a list
 above_all : (xs : List ℕ) → (bound : ℕ) × ((q : ℕ) → Contains xs q → q < bound)
@@ -319,19 +277,6 @@ module _ (rate : ℕ → Sum) (P : ℕ → Type 0) (told : (q : ℕ) → IsTold 
   ]
 
 -- ---- there is a marking
-
--- where a list with one more entry is cut at an entry: at the new one, or within the list
-push_cases : {A : Type 0} (xs : List A) (x y : A) (before after : List A) → xs ++ x ∷ [] ≡ before ++ y ∷ after
-    → ((before ≡ xs) × (x ≡ y)) ⊎ ((rest : List A) × (xs ≡ before ++ y ∷ rest))
-push_cases [] x y [] after e = inl (refl, first_of e)
-push_cases [] x y (b ∷ before) after e = absurd (omega (arith, ap length (rest_of e), length-append before (y ∷ after)))
-push_cases (a ∷ xs) x y [] after e = inr (xs, ap (λ z. z ∷ xs) (first_of e))
-push_cases (a ∷ xs) x y (b ∷ before) after e =
-    let head : a ≡ b = first_of e in
-    elim (push_cases xs x y before after (rest_of e)) [
-      | inl found ↦ inl (λ i. sym head i ∷ found.0 i, found.1)
-      | inr found ↦ inr (found.0, λ i. head i ∷ found.1 i)
-    ]
 
 over_told : (bounds : Bounds) (size : ℕ → ℕ) (ids : List ℕ) → IsTold (AreOver bounds size ids)
 over_told bounds size ids = either_told _ _ (less_told bounds.count (length ids)) (less_told bounds.size (sum_by size ids))

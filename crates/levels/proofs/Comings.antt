@@ -24,7 +24,7 @@ use Rattle.levels.specs.Gathered.{Gathers, IsHere, MayReturn}
 use Rattle.levels.specs.Restores.{ComesOf}
 use Rattle.levels.specs.Shelves.{IsInOrder, Shelf, view_of}
 use Rattle.levels.specs.Views.{View, graph_of}
-use Rattle.levels.proofs.Collected.{all_named, apart_old, child_in, cluster_in, inner_in, in_inner, live_old, stands, told_above, told_named, told_of, whole_old}
+use Rattle.levels.proofs.Collected.{all_named, child_in, cluster_in, inner_in, in_inner, live_old, stands, told_above, told_named, told_of, whole_old}
 use Rattle.levels.proofs.Graphs.{member-number}
 
 module _ (w : ℕ) (shelf : Shelf) (order : IsInOrder w shelf) (txs : Txs) (pairs : List (ℕ × ℕ)) (may : MayReturn shelf txs pairs) (outs : List ℕ)
@@ -48,9 +48,6 @@ module _ (w : ℕ) (shelf : Shelf) (order : IsInOrder w shelf) (txs : Txs) (pair
 
   pub has_name : (id : ℕ) → Has links id ↔ (Contains ids id ⊎ IsNamed olds id)
   has_name id = all_named w shelf order txs pairs may outs g.met g.here g.are_here links.txs g.all_pairs g.puts id
-
-  pub out_of : (id : ℕ) → Contains ids id → IsNamed olds id → ⊥
-  out_of = apart_old w shelf order txs pairs may outs g.met g.here g.are_here links.txs g.all_pairs g.puts
 
   pub live_in : (id : ℕ) → IsNamed olds id → is_member old id ≡ true
   live_in = live_old w shelf order txs pairs may outs g.met g.here g.are_here links.txs g.all_pairs g.puts
@@ -153,10 +150,6 @@ module _ (w : ℕ) (shelf : Shelf) (order : IsInOrder w shelf) (txs : Txs) (pair
         (a, may.parents a b pair, AreConnected-trans links.pairs a b id first (connected_told c listed b id inside held))
   ]
 
-  -- both ends of a pair have names
-  pub pair_ends : (a b : ℕ) → Contains links.pairs (a, b) → Has links a × Has links b
-  pair_ends a b pair = g.whole.graph_is.ends a b pair
-
   -- ---- the graphs that come so
 
   module _ (next : Graph) (size : ℕ → ℕ) (of : ComesOf old txs pairs next size) where
@@ -178,12 +171,6 @@ module _ (w : ℕ) (shelf : Shelf) (order : IsInOrder w shelf) (txs : Txs) (pair
         | inr some ↦ inl ((member_was id).1 (member-number view id ∙ some))
       ]),
     )
-
-    pub has_next : (id : ℕ) → Has links id → Contains next.names id
-    has_next id here = (of.puts.names id).1 (elim ((has_name id).0 here) [
-      | inl one ↦ inr one
-      | inr named ↦ inl ((member_was id).1 (live_in id named))
-    ])
 
     pub was_next : (a b : ℕ) → Contains was.pairs (a, b) → Contains next.pairs (a, b)
     was_next a b pair = (of.puts.pairs a b).1 (inl pair)

@@ -1,5 +1,5 @@
 -- Transactions, pairs and clusters that are looked at one after the other.
-use Rattle.std.proofs.Common.{◌≡◌, ℕ, ℤ, zero, suc, ◌+◌, ◌<◌, ◌≤◌, Bool, true, false, cond, nat_eq, eq-eqb, eqb-true, List, [], ◌∷◌, ◌++◌, take, drop, length, flat_map, get_or, Contains, Option, Some, None, is_some, IsSome, inl, inr, ◌⊎◌, ◌↔◌, refl, sym, ap, ap₂, ◌∙◌, subst, subst₂, true≢false, arith, append_assoc, length-append}
+use Rattle.std.proofs.Common.{◌≡◌, ℕ, ℤ, zero, suc, ◌+◌, ◌<◌, ◌≤◌, Bool, true, false, cond, nat_eq, eq-eqb, eqb-true, List, [], ◌∷◌, ◌++◌, take, drop, length, flat_map, get_or, Contains, Option, Some, is_some, IsSome, inl, inr, ◌⊎◌, ◌↔◌, refl, sym, ap, ap₂, ◌∙◌, subst, subst₂, true≢false, arith, append_assoc, length-append}
 use Rattle.std.specs.Prelude.{option_map, slice_index, MatchResult, Result, Ok, Err}
 use Rattle.std.specs.Result.{IsErrAnd}
 use Rattle.std.specs.FinMap as finmap
@@ -10,6 +10,7 @@ use Rattle.std.proofs.lemmas.Option.{none-some, same_Some}
 use Rattle.lists.specs.Distinct.{AreDistinct}
 use Rattle.lists.proofs.Distinct.{distinct-append_left, distinct_apart, distinct_push}
 use Rattle.lists.proofs.Entries.{Contains-head, Contains-map}
+use Rattle.lists.proofs.Cases.{put_cases, put_old}
 use Rattle.graphs.specs.declared.names.Level.TheVariants.{Top}
 use Rattle.graphs.specs.Certificates.{Txs}
 use Rattle.graph_model.specs.Changes.{ids_of}
@@ -28,14 +29,6 @@ use Rattle.levels.specs.Rings.{Ringed}
 use Rattle.levels.proofs.Ends.{got}
 use Rattle.levels.proofs.Graphs.{cases_option}
 use Rattle.levels.specs.Shelves.{Shelf, numbers_at, seen_at, stored_at}
-
-put_cases : (e h : Bool) → cond e true h ≡ true → (e ≡ true) ⊎ (h ≡ true)
-put_cases true h k = inl refl
-put_cases false h k = inr k
-
-put_old : (e h : Bool) → h ≡ true → cond e true h ≡ true
-put_old true h k = refl
-put_old false h k = k
 
 -- ---- sets, and lists of what they have
 
@@ -88,18 +81,6 @@ more_put list x number is n = (
     | inl before ↦ Contains-append_left list (x ∷ []) n before
     | inr same ↦ subst (λ y. Contains (list ++ x ∷ []) y) (same_Some x n (sym is ∙ same)) (Contains-push list x)
   ],
-)
-
-pub more_again : (list : List ℕ) (x : ℕ) (number : Option ℕ) → number ≡ Some x → Contains list x → HasMore list list number
-more_again list x number is there n = (
-  λ here. inl here,
-  λ either. elim either [ inl before ↦ before | inr same ↦ subst (Contains list) (same_Some x n (sym is ∙ same)) there ],
-)
-
-pub more_none : (list : List ℕ) (number : Option ℕ) → number ≡ None → HasMore list list number
-more_none list number none n = (
-  λ here. inl here,
-  λ either. elim either [ inl before ↦ before | inr same ↦ absurd (none-some n (sym none ∙ same)) ],
 )
 
 -- names of the first transactions, one more
@@ -240,15 +221,6 @@ module _ (shelf : Shelf) (outs : List ℕ) (n : ℕ) (c : Cluster) (at : seen_at
       flat_push f xs x = flat_map-append f xs (x ∷ []) ∙ ap (λ ys. flat_map f xs ++ ys) (append-nil (f x))
 
 -- ---- names of the rings
-
-pub gains_none : (rings : Ringed) → GainsAll [] rings rings
-gains_none rings = record {
-  names = λ x. (λ named. inl named, λ either. elim either [ inl named ↦ named | inr none ↦ absurd (omega (arith, none.1)) ]);
-  main = λ x y. (λ share. inl share, λ either. elim either [ inl share ↦ share | inr both ↦ absurd (omega (arith, both.0.1)) ]);
-  touched = λ x. (λ marked. marked, λ marked. marked);
-  len = omega arith;
-  issued = omega arith;
-}
 
 pub gains_more : (ids : List ℕ) (id : ℕ) (old mid new : Ringed) → GainsAll ids old mid → Gains false id mid new → GainsAll (ids ++ id ∷ []) old new
 gains_more ids id old mid new done gains = record {

@@ -1,7 +1,5 @@
 -- How many bytes values take that hold components or records: the same at each width, since wide sets lie in boxes; but for a walk over covers.
-use Prim.Native.Nat.{max}
-use prog.Memory.{up}
-use Rattle.std.proofs.Common.{ℕ, zero, suc, ◌+◌, ◌*◌, ◌<◌, ◌≤◌, arith, lit<}
+use Rattle.std.proofs.Common.{ℕ, ◌+◌, ◌*◌, ◌<◌, ◌≤◌, lit<}
 
 abbrev pub component_room : ℕ
 component_room = 200
@@ -32,12 +30,3 @@ left_fits w narrow = lit< tt
 -- what comes in
 pub news_fits : (w : ℕ) → w ≤ 2 → record_room + 40 < 9223372036854775808
 news_fits w narrow = lit< tt
-
-abbrev pub covers_room : ℕ → ℕ
-covers_room w = up 8 (0 + up 8 (max 48 (max (8 + up 8 (32 + up 8 (0 + w * 8))) 1)))
-
-pub covers_fits : (w : ℕ) → w ≤ 2 → covers_room w < 9223372036854775808
-covers_fits zero narrow = lit< tt
-covers_fits (suc zero) narrow = lit< tt
-covers_fits (suc (suc zero)) narrow = lit< tt
-covers_fits (suc (suc (suc w))) narrow = absurd (omega (arith, narrow))

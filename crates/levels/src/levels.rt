@@ -38,6 +38,7 @@ use crate::moving::{add_name, connect, drop_names};
 use crate::restoring::restore;
 use crate::settling::settle_rings;
 use crate::shelves::Shelves;
+use chunk_index::Tag;
 use cluster::PartRef;
 use cluster_store::{HeldWalk, NameWalk, OverWalk, PartWalk, RateWalk, RecordWalk, Stored};
 use component::{Component, Covers, Work};
@@ -425,7 +426,7 @@ impl<const W: usize> Levels<W> {
         ensures level { AreLevelParts (sums_of (level_at self.now level).parts) }
     {
         let _count = self.mains;
-        self.shelves.parts(level)
+        self.shelves.store().walk(level)
     }
 
     /// The same parts, each with its cluster. Sets of names have at most two words. Takes no memory.
@@ -436,7 +437,7 @@ impl<const W: usize> Levels<W> {
         ensures narrow { W ≤ 2 }
     {
         let _count = self.mains;
-        self.shelves.held(level)
+        self.shelves.store().walk_held(level)
     }
 
     /// The components of a level that are over the limits, each once, as its transactions and dependencies. Takes no memory, and costs
@@ -445,7 +446,7 @@ impl<const W: usize> Levels<W> {
         ensures { LendsOvers self.now.limits (level_at self.now level).graph result }
     {
         let _count = self.mains;
-        self.shelves.overs(level)
+        self.shelves.store().walk_over(level)
     }
 
     /// How many components of a level these names lie in. Names that the level hasn't are passed over, and a name may be listed twice. Takes
@@ -487,7 +488,7 @@ impl<const W: usize> Levels<W> {
         ensures once { AreDistinct result }
     {
         let _count = self.mains;
-        self.shelves.names(level)
+        self.shelves.store().walk_names(level)
     }
 
     /// The components of a level, each once. One within the limits is lent with its order, and one over them without. Sets of names have at
@@ -497,7 +498,7 @@ impl<const W: usize> Levels<W> {
         ensures narrow { W ≤ 2 }
     {
         let _count = self.mains;
-        self.shelves.components(level)
+        self.shelves.store().walk_records(level)
     }
 
     /// A size, in virtual bytes, that no name of main is below. Takes no memory.
@@ -505,7 +506,7 @@ impl<const W: usize> Levels<W> {
         ensures { (id : ℕ) → is_member self.now.main.graph id ≡ true → result ≤ (rate_of self.now.main.graph id).size }
     {
         let _count = self.mains;
-        self.shelves.least()
+        self.shelves.store().least()
     }
 
     /// The fees and sizes of the parts of a level in its order, in satoshis and virtual bytes. The level isn't over the limits. Takes
@@ -518,7 +519,7 @@ impl<const W: usize> Levels<W> {
             → IsRate (rate_of (level_at self.now level).graph id) }
     {
         let _count = self.mains;
-        self.shelves.rates(level)
+        self.shelves.store().rates(level)
     }
 
     /// The fees and sizes, in satoshis and virtual bytes, of the parts that main alone has, and of those that staging alone has, each in its
@@ -528,7 +529,11 @@ impl<const W: usize> Levels<W> {
             × (result.0 ≡ sums_of mains) × (result.1 ≡ sums_of tops) }
     {
         let _count = self.mains;
-        self.shelves.alone()
+        let store = self.shelves.store();
+        (
+            store.rates_only(Tag::MainOnly),
+            store.rates_only(Tag::TopOnly),
+        )
     }
 
     /// The part of main that has a name, or `None` where main hasn't the name. Main isn't over the limits. Takes no memory.
@@ -574,7 +579,7 @@ impl<const W: usize> Levels<W> {
             → IsRate (rate_of (level_at self.now level).graph id) }
     {
         let _count = self.mains;
-        self.shelves.compare()
+        comparison::compare(self.shelves.store())
     }
 }
 

@@ -1,10 +1,10 @@
-ghost use Rattle.std.specs.Prelude.{◌≡◌, ◌-◌, ◌+◌, ◌≤◌, false, None, Some, ℕ, List, [], length, drop, sum_by, is_some, Contains, IfSome, IsSome, OnSome};
+ghost use Rattle.std.specs.Prelude.{◌≡◌, ◌-◌, ◌+◌, ◌≤◌, None, Some, ℕ, List, [], length, drop, sum_by, is_some, IfSome, OnSome};
 ghost use Rattle.std.specs.FinMap as finmap;
 ghost use Rattle.std.specs.List.{AllPairs};
 ghost use Rattle.staging.specs.Maps.{top_of, map_of};
 ghost use Rattle.cluster.specs.Clusters.{AreApart};
 ghost use Rattle.cluster.specs.Clusters as records;
-ghost use Rattle.levels.specs.Changes.{AreAt, IsNamed, Loses, Points, PointsOne};
+ghost use Rattle.levels.specs.Changes.{AreAt, Loses, Points, PointsOne};
 ghost use Rattle.levels.specs.Shelves.{stored_at};
 ghost use Rattle.levels.specs.Tops.{fresh_from};
 
@@ -18,17 +18,6 @@ pub(crate) fn number_of(numbers: &Overlay<usize>, level: Level, id: TxId) -> Opt
     ensures { result ≡ finmap.get (map_of level numbers.now) id }
 {
     numbers.get(level, id).copied()
-}
-
-/// The number of the cluster of a name that the level has.
-pub(crate) fn live_number(numbers: &Overlay<usize>, level: Level, id: TxId) -> usize
-    requires { IsSome (finmap.get (map_of level numbers.now) id) }
-    ensures { finmap.get (map_of level numbers.now) id ≡ Some result }
-{
-    match number_of(numbers, level, id) {
-        Some(number) => number,
-        None => unreachable!(),
-    }
 }
 
 /// Gives names the number of their cluster in the top level.

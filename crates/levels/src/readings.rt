@@ -1,116 +1,24 @@
 //! What is read of the orders of the levels. Nothing takes memory.
-ghost use Rattle.std.specs.Prelude.{◌≡◌, ◌≢◌, ◌↔◌, ◌≤◌, ℕ, true, false, Some, List, map, Contains, MatchOption};
+ghost use Rattle.std.specs.Prelude.{◌≡◌, ◌≢◌, ◌↔◌, ◌≤◌, ℕ, true, false, Some, Contains, MatchOption};
 ghost use Rattle.std.specs.FinMap as finmap;
-ghost use Rattle.lists.specs.Distinct.{AreDistinct};
-ghost use Rattle.fee_rate.specs.Limits.{IsRate};
-ghost use Rattle.fee_rate.specs.declared.limits.TheConstants.{MAX_TOTAL};
-ghost use Rattle.graphs.specs.declared.names.Level as levels;
-ghost use Rattle.graphs.specs.declared.names.Level.TheVariants.{Main, Top};
-ghost use Rattle.graphs.specs.Closures.{is_member, rate_of};
+ghost use Rattle.graphs.specs.declared.names.Level.TheVariants.{Main};
+ghost use Rattle.graphs.specs.Closures.{is_member};
 ghost use Rattle.graphs.specs.Certificates.{Part};
 ghost use Rattle.graphs.specs.Linearizations.{StandsBefore};
 ghost use Rattle.graph_model.specs.Answers.{StandsTo, order_of};
-ghost use Rattle.cluster_store.specs.Held.{Held};
 ghost use Rattle.cluster_store.specs.Laws.{StandsAt};
 ghost use Rattle.cluster_store.specs.Lent.{lent};
-ghost use Rattle.diagram.specs.Parts.{AreLevelParts};
-ghost use Rattle.levels.specs.Held.{IsHeldIn};
-ghost use Rattle.levels.specs.Levels.{IsBest};
-ghost use Rattle.levels.specs.Orders.{AreApart, ComparesParts, ListsCovers, sums_of};
+ghost use Rattle.levels.specs.Orders.{ListsCovers};
 ghost use Rattle.levels.specs.Places.{HasPart};
 ghost use Rattle.levels.specs.Oversize.{IsOversized};
-ghost use Rattle.levels.specs.Overs.{LendsOvers};
-ghost use Rattle.levels.specs.Shelves.{HaveFew, IsInOrder, numbers_at, one_of};
-ghost use Rattle.levels.specs.Views.{AreItsClusters, HaveClusterNumbers};
+ghost use Rattle.levels.specs.Shelves.{IsInOrder, numbers_at, one_of};
 
 use crate::shelves::Shelves;
-use chunk_index::Tag;
 use cluster::PartRef;
-use cluster_store::{HeldWalk, NameWalk, OverWalk, PartWalk, RateWalk, RecordWalk, Stored};
 use component::Covers;
-use graph_model::{Level, Place, TxId, Verdict};
+use graph_model::{Level, Place, TxId};
 
 impl<const W: usize> Shelves<W> {
-    /// The parts of a level in its order, which is an optimal one of every graph that the level stands for. Its names have fees and
-    /// sizes in range, and where they are no more than are added up, the parts have falling rates and sums in range. Two parts
-    /// have one number exactly where they are of one cluster.
-    pub(crate) fn parts(&self, level: Level) -> PartWalk<'_, Stored<W>>
-        requires order { IsInOrder W self.now }
-        requires within { IsOversized self.now.limits (one_of level self.now).graph → ⊥ }
-        requires few { finmap.len (numbers_at level self.now) ≤ MAX_TOTAL }
-        ensures parts { map (λ s. s.part) result ≡ (one_of level self.now).parts }
-        ensures numbers { HaveClusterNumbers (one_of level self.now).graph result }
-        ensures best { IsBest (one_of level self.now) }
-        ensures rates { (id : ℕ) → is_member (one_of level self.now).graph id ≡ true
-            → IsRate (rate_of (one_of level self.now).graph id) }
-        ensures level { AreLevelParts (sums_of (one_of level self.now).parts) }
-    {
-        self.store().walk(level)
-    }
-
-    /// The same parts, each with its cluster.
-    pub(crate) fn held(&self, level: Level) -> HeldWalk<'_, W>
-        requires order { IsInOrder W self.now }
-        requires within { IsOversized self.now.limits (one_of level self.now).graph → ⊥ }
-        ensures parts { map (λ h. h.part) result ≡ (one_of level self.now).parts }
-        ensures clusters { (h : Held) → Contains result h → IsHeldIn (one_of level self.now) h }
-    {
-        self.store().walk_held(level)
-    }
-
-    /// The components of a level that are over the limits.
-    pub(crate) fn overs(&self, level: Level) -> OverWalk<'_, Stored<W>>
-        requires order { IsInOrder W self.now }
-        ensures { LendsOvers self.now.limits (one_of level self.now).graph result }
-    {
-        self.store().walk_over(level)
-    }
-
-    /// The names of a level.
-    pub(crate) fn names(&self, level: Level) -> NameWalk<'_, Stored<W>>
-        requires order { IsInOrder W self.now }
-        ensures names { (id : ℕ) → Contains result id ↔ (is_member (one_of level self.now).graph id ≡ true) }
-        ensures once { AreDistinct result }
-    {
-        self.store().walk_names(level)
-    }
-
-    /// The components of a level.
-    pub(crate) fn components(&self, level: Level) -> RecordWalk<'_, W>
-        requires order { IsInOrder W self.now }
-        ensures { AreItsClusters (one_of level self.now).graph result }
-    {
-        self.store().walk_records(level)
-    }
-
-    /// A size, in virtual bytes, that no name of main is below.
-    pub(crate) fn least(&self) -> u64
-        requires order { IsInOrder W self.now }
-        ensures { (id : ℕ) → is_member (one_of Main self.now).graph id ≡ true → result ≤ (rate_of (one_of Main self.now).graph id).size }
-    {
-        self.store().least()
-    }
-
-    /// The fees and sizes of the parts of a level in its order.
-    pub(crate) fn rates(&self, level: Level) -> RateWalk<'_>
-        requires order { IsInOrder W self.now }
-        ensures { result ≡ sums_of (one_of level self.now).parts }
-    {
-        self.store().rates(level)
-    }
-
-    /// The fees and sizes of the parts of the clusters that stand in main alone, and of those that stand in the top level alone.
-    pub(crate) fn alone(&self) -> (RateWalk<'_>, RateWalk<'_>)
-        ensures { (mains tops : List Part) × AreApart (one_of Main self.now).parts (one_of Top self.now).parts mains tops
-            × (result.0 ≡ sums_of mains) × (result.1 ≡ sums_of tops) }
-    {
-        let store = self.store();
-        (
-            store.rates_only(Tag::MainOnly),
-            store.rates_only(Tag::TopOnly),
-        )
-    }
-
     /// The part of main that has a name, or `None` where main hasn't the name.
     pub(crate) fn chunk(&self, id: TxId) -> Option<PartRef<'_>>
         requires order { IsInOrder W self.now }
@@ -181,17 +89,6 @@ impl<const W: usize> Shelves<W> {
         ensures { ListsCovers (one_of level self.now).graph (order_of (one_of level self.now).parts) id result }
     {
         self.ordered_at(self.its_number(level, id)).covers(id)
-    }
-
-    /// How staging stands to main: the verdict of its parts' diagram over main's. Where the last part of each level has a fee of at
-    /// least 0, the parts that stand in both levels aren't looked at but for the last one.
-    pub(crate) fn compare(&self) -> Verdict
-        requires order { IsInOrder W self.now }
-        requires within { (level : levels.Level) → IsOversized self.now.limits (one_of level self.now).graph → ⊥ }
-        requires few { HaveFew self.now }
-        ensures { ComparesParts (one_of Main self.now).parts (one_of Top self.now).parts result }
-    {
-        comparison::compare(self.store())
     }
 
     /// The number of the cluster of a name that a level has.

@@ -11,7 +11,7 @@ use Rattle.bitset.specs.Places.{places}
 use Rattle.graphs.specs.declared.names.Flow.{Flow}
 use Rattle.linearize.specs.Drafts.{Written, all_flows, flows_in, with_flows}
 use Rattle.linearize.specs.Orders.{flows_from, flows_of, parents_within}
-use Rattle.linearize.proofs.Places.{Goes, goes_on, gone}
+use Rattle.linearize.proofs.Places.{Goes, goes_on}
 
 -- ---- the list grows place by place
 pub from_append : (flow : ℕ → ℕ → ℕ) (c : ℕ) (xs ys : List ℕ) → flows_from flow c (xs ++ ys) ≡ flows_from flow c xs ++ flows_from flow c ys
@@ -93,10 +93,6 @@ sending_room n s list old now ys ws zs p most joins h e room =
     let b = length-append (list (p ∷ [])) (list zs) in
     let so_far : length (all_flows now) ≡ length (all_flows old) + length (list ys) = ap (λ w. length (all_flows w)) h.is ∙ length_with old (list ys) in
     omega arith
-
-pub sending_all : (n : ℕ) (s : fin.FinSet nat_cmp) (list : List ℕ → List Flow) (old now : Written) (ys ws : List ℕ) → Sending n s list old now ys ws
-    → ws ≡ [] → now ≡ with_flows old (list (places n s))
-sending_all n s list old now ys ws h e = h.is ∙ ap (λ xs. with_flows old (list xs)) (gone n s ys ws h.goes e)
 
 pub from_start : (n : ℕ) (s : fin.FinSet nat_cmp) (flow : ℕ → ℕ → ℕ) (c : ℕ) (old : Written) (zs : List ℕ) → zs ≡ places n s
     → Sending n s (flows_from flow c) old old [] zs

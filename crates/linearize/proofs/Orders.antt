@@ -49,15 +49,6 @@ pub record Placing (n : ℕ) (dep : Closure) (s left : fin.FinSet nat_cmp) (ids 
   pub above : (a k : ℕ) → is_ancestor dep a k ≡ true → a ≢ k → fin.contains s a ≡ true → Contains ids k → StandsBefore ids a k
   pub count : length ids + fin.len left ≡ fin.len s
 
-pub placing_start : (n : ℕ) (dep : Closure) (s : fin.FinSet nat_cmp) (ids : List ℕ) → ids ≡ [] → Placing n dep s s ids
-placing_start n dep s ids none = subst (λ xs. Placing n dep s s xs) (sym none) (record {
-  inside = λ k m. m;
-  once = tt;
-  exact = λ k. (λ h. absurd (none_in_empty k h), λ h. absurd (h.1 h.0));
-  above = λ a k e ne m h. absurd (none_in_empty k h);
-  count = omega arith;
-})
-
 pub before_push : (xs : List ℕ) (x a b : ℕ) → StandsBefore xs a b → StandsBefore (xs ++ x ∷ []) a b
 before_push xs x a b h = (h.0, h.1 ++ x ∷ [], ap (λ ys. ys ++ x ∷ []) h.2 ∙ append_assoc h.0 (b ∷ h.1) (x ∷ []), h.3)
 

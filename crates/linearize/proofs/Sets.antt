@@ -1,5 +1,5 @@
 -- Sets of places: members of changed sets, and sums over a set that is two others side by side.
-use Rattle.std.proofs.Common.{◌≡◌, ℕ, ◌+◌, ◌<◌, ◌⊎◌, inl, inr, Bool, true, false, cond, not, ◌||◌}
+use Rattle.std.proofs.Common.{◌≡◌, ℕ, ◌+◌, ◌<◌, ◌⊎◌, inl, inr, Bool, true, false, cond, ◌||◌}
 use Rattle.std.proofs.Common.{List, [], ◌∷◌, length, sum_by, ℤ, pos, ◌+ℤ◌, refl, sym, ap, ◌∙◌, arith, eq-eqb}
 use Rattle.std.proofs.Common.{ne_eqb}
 use Rattle.std.proofs.lemmas.Int.{ints}
@@ -14,10 +14,6 @@ use Rattle.arithmetic.specs.Sums.{total}
 use Rattle.arithmetic.proofs.Sums.{total-add, total-filter_cond, total_same, total-pos}
 use Rattle.bitset.specs.Places.{places, IsWithin, IsLeast}
 use Rattle.bitset.specs.Sets.{contains-insert, contains-empty, len-places, places-least, places-empty, same_members}
-
-not_is : (b : Bool) → not b ≡ true → b ≡ true → ⊥
-not_is true e f = let g : false ≡ true = e in cc
-not_is false e f = let g : false ≡ true = f in cc
 
 -- ---- members
 

@@ -123,9 +123,6 @@ two_solves n a b front middle all r0 r1 r2 r3 one two three four lens own (ps, i
 pub at_least_one : (n : ℕ) (old new : Room) (before after : ℕ) → AreOfOne n old new before after → AreAtLeast n old new before after
 at_least_one n old new before after one = record { gave = one.gave; least = (let counted = one.counted in omega (arith, counted)) }
 
-pub at_least_any : (n : ℕ) (old new : Room) (before after : ℕ) → AreAtLeast n old new before after → AreAtLeast 0 old new before after
-at_least_any n old new before after s = record { gave = s.gave; least = omega (arith, s.least) }
-
 pub at_least_both : (n a b : ℕ) (r0 r1 r2 : Room) (one two three : ℕ) → n ≤ a + b → AreAtLeast a r0 r1 one two → AreAtLeast b r1 r2 two three
     → AreAtLeast n r0 r2 one three
 at_least_both n a b r0 r1 r2 one two three few first then = record {

@@ -1,6 +1,6 @@
 -- Sums of fees and sizes over places, and weights.
 use Rattle.std.proofs.Common.{◌≡◌, ℕ, ◌+◌, ◌*◌, ◌^◌, ◌<◌, ◌≤◌, true, List, [], ◌∷◌, ◌++◌, length, set, ℤ, pos, ◌+ℤ◌}
-use Rattle.std.proofs.Common.{unsigned_abs, refl, sym, ap, ◌∙◌, subst, arith, length-append}
+use Rattle.std.proofs.Common.{unsigned_abs, sym, ap, ◌∙◌, subst, arith, length-append}
 use Rattle.std.specs.Prelude.{Contains}
 use Rattle.std.proofs.lemmas.Int.{ints}
 use Rattle.std.proofs.lemmas.List.Sums.{sum_by-cons, sum_by-append}
@@ -32,9 +32,6 @@ pub record Summed (n : ℕ) (dep : Closure) (s : fin.FinSet nat_cmp) (ys zs : Li
 
 pub abs_add : (x y : ℤ) (m k : ℕ) → unsigned_abs x ≤ m → unsigned_abs y ≤ k → unsigned_abs (x +ℤ y) ≤ m + k
 abs_add x y m k a b = omega (arith, ints)
-
-pub summed_start : (n : ℕ) (dep : Closure) (s : fin.FinSet nat_cmp) (zs : List ℕ) → zs ≡ places n s → Summed n dep s [] zs (pos 0) 0
-summed_start n dep s zs e = record { goes = e; fee_is = refl; size_is = refl; fee_small = omega (arith, ints); size_small = omega arith }
 
 pub summed_more : (n : ℕ) (dep : Closure) (s : fin.FinSet nat_cmp) (ys ws zs : List ℕ) (fee : ℤ) (size : ℕ) (p : ℕ) → IsRate (rate_of dep p)
     → Summed n dep s ys ws fee size → ws ≡ p ∷ zs

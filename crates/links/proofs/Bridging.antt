@@ -268,21 +268,6 @@ adds_like P Q old new like adds a b = (
 pub adds_none : (P : ℕ → ℕ → Type 0) (list : List (ℕ × ℕ)) → ((a b : ℕ) → P a b → ⊥) → Adds P list list
 adds_none P list none a b = ((λ here. inl here), (λ either. elim either [ inl here ↦ here | inr p ↦ absurd (none a b p) ]))
 
-pub adds_one : (P : ℕ → ℕ → Type 0) (list : List (ℕ × ℕ)) (x y : ℕ) → ((a b : ℕ) → P a b ↔ ((a ≡ x) × (b ≡ y))) → Adds P list (list ++ (x, y) ∷ [])
-adds_one P list x y like a b = (
-  (λ here. elim (Contains-push_cases list (x, y) (a, b) here) [
-    | inl old ↦ inl old
-    | inr same ↦ inr ((like a b).1 (ap (λ (s : ℕ × ℕ). s.0) (sym same), ap (λ (s : ℕ × ℕ). s.1) (sym same)))
-  ]),
-  (λ either. elim either [
-    | inl old ↦ Contains-append_left list ((x, y) ∷ []) (a, b) old
-    | inr p ↦
-        let is = (like a b).0 p in
-        subst (λ (u : ℕ). Contains {X = ℕ × ℕ} (list ++ (x, y) ∷ []) (u, b)) (sym is.0)
-        (subst (λ (v : ℕ). Contains {X = ℕ × ℕ} (list ++ (x, y) ∷ []) (x, v)) (sym is.1) (Contains-push list (x, y)))
-  ]),
-)
-
 -- names that lead to a parent, one more
 pub bridge_more : (has : ℕ → Bool) (child above : ℕ) (ys : List ℕ) (old mid new : List (ℕ × ℕ))
     → Adds (λ a b. Contains ys a × (b ≡ child) × (has a ≡ false)) old mid

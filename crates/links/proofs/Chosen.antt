@@ -11,11 +11,11 @@ use Rattle.graphs.specs.Certificates.{Txs}
 use Rattle.links.specs.Links.{AreAmong, AreInRange, AreSame}
 use Rattle.links.specs.Kept.{names_of}
 use Rattle.links.specs.Leaving.{Adds}
-use Rattle.links.specs.Places.{ArePlaces, AreSteps}
-use Rattle.links.specs.Ways.{step_at, IsLast}
+use Rattle.places.specs.Places.{ArePlaces, AreSteps}
+use Rattle.places.specs.Chains.{pair_at, IsLast}
 use Rattle.links.specs.Walkers.{mark_at}
 use Rattle.links.specs.Gathering.{tx_at, MarksMore, IsFrom, IsFromOne, AreInto, AreClosed}
-use Rattle.links.proofs.Placing.{name_at}
+use Rattle.places.proofs.Placing.{name_at}
 use Rattle.links.proofs.Walking.{named_step}
 
 -- ---- the first entries, one more
@@ -33,15 +33,6 @@ taken_last xs k low =
     subst (λ (l : List ℕ). Contains l (get_or xs k 0)) (sym (take_more xs k 0 low)) (Contains-push (take k xs) (get_or xs k 0))
 
 -- ---- marks
-
-pub marks_first : (count : ℕ) (marks : List Bool) → MarksMore count marks [] marks
-marks_first count marks p low = (
-  (λ marked. inl marked),
-  (λ either. elim either [
-    | inl marked ↦ marked
-    | inr here ↦ absurd (none_in_empty p here)
-  ]),
-)
 
 pub marks_next : (count : ℕ) (old mid : List Bool) (places : List ℕ) (k : ℕ) → MarksMore count old (take k places) mid → k < length places
     → get_or places k 0 < length mid → MarksMore count old (take (k + 1) places) (set mid (get_or places k 0) true)
@@ -73,8 +64,8 @@ marks_next count old mid places k more low inside p below =
 -- The steps before `left` are still to be looked at, the last of them is from the place, and the pairs of the later ones were put.
 pub record IsPut (steps pairs : List (ℕ × ℕ)) (place left : ℕ) (old new : List (ℕ × ℕ)) : Type 0 where
   pub below : left ≤ length steps
-  pub into : 0 < left → (step_at steps (left - 1)).1 ≡ place
-  pub adds : Adds (λ a b. (k : ℕ) × (left ≤ k) × (k < length pairs) × ((step_at steps k).1 ≡ place) × (◌≡◌ {A = ℕ × ℕ} (step_at pairs k) (a, b))) old new
+  pub into : 0 < left → (pair_at steps (left - 1)).1 ≡ place
+  pub adds : Adds (λ a b. (k : ℕ) × (left ≤ k) × (k < length pairs) × ((pair_at steps k).1 ≡ place) × (◌≡◌ {A = ℕ × ℕ} (pair_at pairs k) (a, b))) old new
 
 pub put_first : (steps pairs list : List (ℕ × ℕ)) (place left : ℕ) → length steps ≡ length pairs → IsLast steps place (length steps) left
     → IsPut steps pairs place left list list
@@ -91,10 +82,10 @@ put_first steps pairs list place left sized last = record {
 }
 
 pub put_next : (steps pairs old mid new : List (ℕ × ℕ)) (place left next : ℕ) → length steps ≡ length pairs → IsPut steps pairs place left old mid
-    → 0 < left → IsLast steps (step_at steps (left - 1)).1 (left - 1) next → new ≡ mid ++ step_at pairs (left - 1) ∷ []
+    → 0 < left → IsLast steps (pair_at steps (left - 1)).1 (left - 1) next → new ≡ mid ++ pair_at pairs (left - 1) ∷ []
     → IsPut steps pairs place next old new
 put_next steps pairs old mid new place left next sized put some chain is =
-    let x : ℕ × ℕ = step_at pairs (left - 1) in
+    let x : ℕ × ℕ = pair_at pairs (left - 1) in
     let own : IsLast steps place (left - 1) next = subst (λ (q : ℕ). IsLast steps q (left - 1) next) (put.into some) chain in
     let short = own.below in
     let below = put.below in
@@ -113,7 +104,7 @@ put_next steps pairs old mid new place left next sized put some chain is =
           | inl was ↦ Contains-append_left mid (x ∷ []) (a, b) ((put.adds a b).1 (inl was))
           | inr (k, from, low, leads, at) ↦ elim (cases_lt k left) [
             | inl less ↦ elim (cases_eq k (left - 1)) [
-              | inl same ↦ subst (λ (y : ℕ × ℕ). Contains (mid ++ x ∷ []) y) (ap (step_at pairs) (sym same) ∙ at) (Contains-push mid x)
+              | inl same ↦ subst (λ (y : ℕ × ℕ). Contains (mid ++ x ∷ []) y) (ap (pair_at pairs) (sym same) ∙ at) (Contains-push mid x)
               | inr other ↦ absurd (own.later k from (omega arith) leads)
             ]
             | inr more ↦ Contains-append_left mid (x ∷ []) (a, b) ((put.adds a b).1 (inr (k, more, low, leads, at)))
@@ -195,10 +186,10 @@ into_at names find pairs steps inner places h s within adds a b =
       ]),
       (λ both.
           let (k, low, at) = both.0 in
-          let is : ◌≡◌ {A = ℕ × ℕ} (step_at pairs k) (a, b) = get_or_default pairs k (0, 0) (a, b) low ∙ at in
+          let is : ◌≡◌ {A = ℕ × ℕ} (pair_at pairs k) (a, b) = get_or_default pairs k (0, 0) (a, b) low ∙ at in
           let (place, there, named) = map-Contains nm places b both.1 in
-          let leads : (step_at steps k).1 ≡ place =
-          same_Some (step_at steps k).1 place (sym (s.ends k low).1 ∙ ap (λ (x : ℕ × ℕ). find x.1) is ∙ ap find (sym named) ∙ h.complete place (within place there)) in
+          let leads : (pair_at steps k).1 ≡ place =
+          same_Some (pair_at steps k).1 place (sym (s.ends k low).1 ∙ ap (λ (x : ℕ × ℕ). find x.1) is ∙ ap find (sym named) ∙ h.complete place (within place there)) in
           (adds a b).1 (inr (place, there, (k, low, leads, is)))),
     )
 

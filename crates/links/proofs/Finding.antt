@@ -13,7 +13,7 @@ use Rattle.graphs.proofs.WalkLemmas.{AreConnected-sym, AreConnected-trans, AreCo
 use Rattle.links.specs.Links.{Links, AreLinks, Has}
 use Rattle.links.specs.Kept.{names_of}
 use Rattle.links.specs.Pairs.{AreSplit}
-use Rattle.links.specs.Places.{ArePlaces, AreSteps}
+use Rattle.places.specs.Places.{ArePlaces, AreSteps}
 use Rattle.links.specs.Walkers.{FindsAll, mark_at}
 use Rattle.links.specs.Parts.{StandsBefore, AreComponentsOf}
 use Rattle.links.specs.Gathering.{tx_at, both_ways, AreInto, AreFound, IsComponent, MarksMore}
@@ -22,16 +22,6 @@ use Rattle.links.proofs.Chosen.{names_at}
 use Rattle.links.proofs.Trails.{found_around, trail_inside}
 
 -- ---- none yet
-
-pub found_none : (old : Links) (taken : List Bool) → ((p : ℕ) → p < length old.txs → mark_at taken p ≡ false) → AreFound old 0 taken []
-found_none old taken none = record {
-  each = λ part here. absurd (none_in_empty part here);
-  exact = λ p low. ((λ marked. absurd (true≢false (sym marked ∙ none p low))), (λ (part, here, has). absurd (none_in_empty part here)));
-  all = λ p low. absurd (omega arith);
-  begun = λ part here. absurd (none_in_empty part here);
-  apart = λ i j d less low. absurd (omega arith);
-  order = λ i j d less low. absurd (omega arith);
-}
 
 -- ---- a place that has a component
 

@@ -1,33 +1,25 @@
 -- Names that go, told by a test, and lists without what they are of.
-use Rattle.std.proofs.Common.{◌≡◌, ℕ, zero, suc, ◌+◌, ◌<◌, ◌⊎◌, inl, inr, Bool, true, false, cond, nat_eq, eq-eqb, List, [], ◌∷◌, ◌++◌, length, get_or, take, refl, sym, ap, ◌∙◌, subst, arith}
+use Rattle.std.proofs.Common.{◌≡◌, ℕ, zero, suc, ◌+◌, ◌<◌, ◌⊎◌, inl, inr, Bool, true, cond, nat_eq, eq-eqb, List, [], ◌∷◌, ◌++◌, length, get_or, take, sym, ap, ◌∙◌, subst, arith}
 use Rattle.std.specs.Prelude.{Contains}
 use Rattle.std.specs.List.{filter, list_any}
 use Rattle.std.proofs.lemmas.Bool.{eqb-true, or_left, or_right}
 use Rattle.std.proofs.lemmas.List.{take_more}
 use Rattle.std.proofs.lemmas.List.Elements.{Contains-push, Contains-push_cases, Contains-append_left, filter-append}
 use Rattle.std.proofs.lemmas.Map.Views.{Contains-from_any}
-use Rattle.lists.proofs.Cases.{same_test}
+use Rattle.lists.proofs.Cases.{same_test, put_cases, put_old}
 use Rattle.links.specs.Leaving.{goes, Tells}
-
-gone_cases : (e h : Bool) → cond e true h ≡ true → (e ≡ true) ⊎ (h ≡ true)
-gone_cases true h k = inl refl
-gone_cases false h k = inr k
-
-gone_old : (e h : Bool) → h ≡ true → cond e true h ≡ true
-gone_old true h k = refl
-gone_old false h k = k
 
 -- one more name
 pub tells_next : (has has' : ℕ → Bool) (names : List ℕ) (k x : ℕ) → k < length names → get_or names k 0 ≡ x → Tells has (take k names)
     → ((q : ℕ) → has' q ≡ cond (nat_eq x q) true (has q)) → Tells has' (take (k + 1) names)
 tells_next has has' names k x low at tells up q =
     let is : take (k + 1) names ≡ take k names ++ x ∷ [] = take_more names k 0 low ∙ ap (λ y. take k names ++ y ∷ []) at in (
-      (λ h. subst (λ (l : List ℕ). Contains l q) (sym is) (elim (gone_cases (nat_eq x q) (has q) (sym (up q) ∙ h)) [
+      (λ h. subst (λ (l : List ℕ). Contains l q) (sym is) (elim (put_cases (nat_eq x q) (has q) (sym (up q) ∙ h)) [
         | inl same ↦ subst (λ (y : ℕ). Contains (take k names ++ x ∷ []) y) (eqb-true x q same) (Contains-push (take k names) x)
         | inr old ↦ Contains-append_left (take k names) (x ∷ []) q ((tells q).0 old)
       ])),
       (λ here. up q ∙ elim (Contains-push_cases (take k names) x q (subst (λ (l : List ℕ). Contains l q) is here)) [
-        | inl old ↦ gone_old (nat_eq x q) (has q) ((tells q).1 old)
+        | inl old ↦ put_old (nat_eq x q) (has q) ((tells q).1 old)
         | inr same ↦ ap (λ b. cond b true (has q)) (eq-eqb x q same)
       ]),
     )

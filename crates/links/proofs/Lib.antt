@@ -1,7 +1,5 @@
-pub mod Chaining
 pub mod Marks
 pub mod Around
-pub mod Placing
 pub mod Turning
 pub mod Pairing
 pub mod Walking

@@ -9,7 +9,6 @@ use Rattle.std.proofs.lemmas.List.FromFn.{length-range_with_len}
 use Rattle.std.specs.List.{range_with_len}
 use Rattle.lists.specs.Distinct.{AreDistinct}
 use Rattle.lists.proofs.Distinct.{distinct_push, distinct_within}
-use Rattle.lists.proofs.Entries.{none_in_empty}
 use Rattle.lists.proofs.Ranges.{Contains-range}
 use Rattle.graphs.specs.Graphs.{Walk, IsAncestor}
 use Rattle.graphs.proofs.WalkLemmas.{walk_cons}
@@ -59,38 +58,11 @@ room_for count marks found place m low none =
     let more = few_found count (set marks place true) (found ++ place ∷ []) (found_more count marks found place m low none) in
     omega (arith, more, length_push found place)
 
--- where no place has a mark, none was found
-pub none_found : (count : ℕ) (marks : List Bool) (found : List ℕ) → length marks ≡ count
-    → ((p : ℕ) → p < count → mark_at marks p ≡ false) → found ≡ [] → AreMarked count marks found
-none_found count marks found sized clear none =
-    let nothing : (p : ℕ) → Contains found p → ⊥ = λ p here. none_in_empty p (subst (λ (xs : List ℕ). Contains xs p) none here) in
-    record {
-      sized = sized;
-      once = subst AreDistinct (sym none) tt;
-      within = λ p here. absurd (nothing p here);
-      exact = λ p low. ((λ marked. absurd (true≢false (sym marked ∙ clear p low))), (λ here. absurd (nothing p here)));
-    }
-
 -- ---- marks that are taken away
 
 -- the places that still have a mark were found from position `at` on
 abbrev pub AreLeft : ℕ → List Bool → List ℕ → ℕ → Type 0
 AreLeft count marks found at = (p : ℕ) → p < count → mark_at marks p ≡ true → (j : ℕ) × (at ≤ j) × (j < length found) × (get_or found j 0 ≡ p)
-
-pub left_first : (count : ℕ) (marks : List Bool) (found : List ℕ) → AreMarked count marks found → AreLeft count marks found 0
-left_first count marks found m p low marked =
-    let here = (m.exact p low).0 marked in
-    (here.0, omega arith, here.1, get_or_default found here.0 0 p here.1 ∙ here.2)
-
-pub left_next : (count : ℕ) (marks : List Bool) (found : List ℕ) (at place : ℕ) → AreLeft count marks found at → at < length found
-    → get_or found at 0 ≡ place → place < length marks → AreLeft count (set marks place false) found (at + 1)
-left_next count marks found at place left low is inside p below marked = elim (cases_eq p place) [
-  | inl same ↦ absurd (true≢false (sym marked ∙ ap (mark_at (set marks place false)) same ∙ get_or-set_same marks place false false inside))
-  | inr other ↦
-      let (j, from, to, e) = left p below (sym (get_or-set_other marks place p false false other) ∙ marked) in
-      let ne : j ≢ at = λ same. other (sym e ∙ ap (λ k. get_or found k 0) same ∙ is) in
-      (j, omega arith, to, e)
-]
 
 pub none_left : (count : ℕ) (marks : List Bool) (found : List ℕ) (at : ℕ) → AreLeft count marks found at → length found ≤ at
     → (p : ℕ) → p < count → mark_at marks p ≡ false

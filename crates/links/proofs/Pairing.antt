@@ -1,31 +1,13 @@
 -- Pairs, each once.
-use Rattle.std.proofs.Common.{◌≡◌, ℕ, ◌+◌, ◌<◌, List, [], ◌∷◌, ◌++◌, length, refl, sym, ap, ◌∙◌, subst, inl, inr, ◌⊎◌, cond, arith, get_or, take, Bool, true, false, true≢false, nat_eq, eq-eqb}
+use Rattle.std.proofs.Common.{◌≡◌, ℕ, ◌+◌, ◌<◌, List, [], ◌∷◌, ◌++◌, length, sym, ap, ◌∙◌, subst, inl, inr, ◌⊎◌, cond, get_or, take, Bool, true, false, true≢false}
 use Rattle.std.specs.Prelude.{Contains, ◌↔◌}
-use Rattle.std.proofs.lemmas.Bool.{eqb-true, and_parts, and_from}
 use Rattle.std.proofs.lemmas.List.{take_more}
 use Rattle.std.proofs.lemmas.List.Elements.{Contains-push, Contains-append_left, Contains-push_cases}
 use Rattle.lists.proofs.Distinct.{distinct_push}
-use Rattle.links.specs.Pairs.{same_pair, ListsSet, HasMore}
-
-pub same_pair_is : (x y : ℕ × ℕ) → same_pair x y ≡ true → ◌≡◌ {A = ℕ × ℕ} x y
-same_pair_is x y h =
-    let (a, b) = and_parts (nat_eq x.0 y.0) (nat_eq x.1 y.1) h in
-    ap (λ z. let p : ℕ × ℕ = (z, x.1) in p) (eqb-true x.0 y.0 a) ∙ ap (λ z. let p : ℕ × ℕ = (y.0, z) in p) (eqb-true x.1 y.1 b)
-
-pub pair_is_same : (x y : ℕ × ℕ) → ◌≡◌ {A = ℕ × ℕ} x y → same_pair x y ≡ true
-pair_is_same x y e = subst (λ (z : ℕ × ℕ). same_pair x z ≡ true) e (and_from (nat_eq x.0 x.0) (nat_eq x.1 x.1) (eq-eqb x.0 x.0 refl) (eq-eqb x.1 x.1 refl))
-
-put_cases : (e h : Bool) → cond e true h ≡ true → (e ≡ true) ⊎ (h ≡ true)
-put_cases true h k = inl refl
-put_cases false h k = inr k
-
-put_old : (e h : Bool) → h ≡ true → cond e true h ≡ true
-put_old true h k = refl
-put_old false h k = k
-
--- a set without pairs is the empty list's
-pub set_none : (has : ℕ × ℕ → Bool) → ((q : ℕ × ℕ) → has q ≡ false) → ListsSet has []
-set_none has none = record { once = tt; exact = λ q. ((λ h. absurd (true≢false (sym h ∙ none q))), (λ h. absurd (omega (arith, h.1)))) }
+use Rattle.lists.proofs.Cases.{put_cases, put_old}
+use Rattle.lists.specs.Pairs.{same_pair}
+use Rattle.lists.proofs.Pairs.{same_pair_is, pair_is_same}
+use Rattle.links.specs.Pairs.{ListsSet, HasMore}
 
 -- a new pair
 pub set_more : (has has' : ℕ × ℕ → Bool) (list : List (ℕ × ℕ)) (x : ℕ × ℕ) → ListsSet has list → has x ≡ false

@@ -6,8 +6,8 @@ use Rattle.std.proofs.lemmas.Option.{same_Some}
 use Rattle.lists.proofs.Entries.{Contains-map, map-Contains}
 use Rattle.graphs.specs.Graphs.{Walk, Trail, AreConnected}
 use Rattle.graphs.proofs.WalkLemmas.{trail_cons}
-use Rattle.links.specs.Places.{ArePlaces, AreSteps}
-use Rattle.links.specs.Ways.{AreWithin, turned}
+use Rattle.places.specs.Places.{ArePlaces, AreSteps}
+use Rattle.places.specs.Chains.{AreWithin, turned}
 use Rattle.links.specs.Walkers.{FindsAll}
 use Rattle.links.specs.Gathering.{both_ways, AreInto, AreClosed}
 use Rattle.links.proofs.Turning.{turned_within, turned_step, step_turned}

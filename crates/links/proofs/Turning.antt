@@ -5,7 +5,7 @@ use Rattle.std.proofs.lemmas.List.Elements.{All-map}
 use Rattle.lists.proofs.Entries.{Contains-map, map-Contains}
 use Rattle.graphs.specs.Graphs.{Walk, IsAncestor}
 use Rattle.graphs.proofs.WalkLemmas.{walk_cons}
-use Rattle.links.specs.Ways.{AreWithin, turned}
+use Rattle.places.specs.Chains.{AreWithin, turned}
 
 pub turned_within : (count : ℕ) (steps : List (ℕ × ℕ)) → AreWithin count steps → AreWithin count (map turned steps)
 turned_within count steps within =

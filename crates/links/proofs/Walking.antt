@@ -13,9 +13,10 @@ use Rattle.graphs.specs.Certificates.{Txs}
 use Rattle.graphs.specs.Unions.{IsKin}
 use Rattle.graphs.specs.declared.names.Kin.{Kin}
 use Rattle.graphs.specs.declared.names.Kin.TheVariants.{Ancestors, Descendants}
-use Rattle.links.specs.Ways.{step_at, AreWithin, turned}
+use Rattle.places.specs.Chains.{pair_at, AreWithin, turned}
 use Rattle.links.specs.Kept.{AreMaps, names_of, ways_to}
-use Rattle.links.specs.Places.{ArePlaces, AreSteps, Finds, IsPlaceOf}
+use Rattle.places.specs.Places.{ArePlaces, AreSteps, Finds}
+use Rattle.links.specs.Places.{IsPlaceOf}
 use Rattle.links.specs.Walkers.{FindsAll, FindsFrom}
 use Rattle.links.specs.declared.maps.Maps.{Maps}
 use Rattle.links.proofs.Turning.{turned_ancestors}
@@ -42,22 +43,22 @@ step_named names find pairs steps h s p q (k, inside, at) =
     let size = s.sized in
     let low : k < length pairs = omega arith in
     let ends = s.ends k low in
-    let is : ◌≡◌ {A = ℕ × ℕ} (step_at steps k) (p, q) = get_or_default steps k (0, 0) (p, q) inside ∙ at in
-    let first : get_or names p 0 ≡ (step_at pairs k).0 =
-    (h.sound (step_at pairs k).0 p (ends.0 ∙ ap (λ (x : ℕ × ℕ). Some x.0) is)).1 in
-    let second : get_or names q 0 ≡ (step_at pairs k).1 =
-    (h.sound (step_at pairs k).1 q (ends.1 ∙ ap (λ (x : ℕ × ℕ). Some x.1) is)).1 in
+    let is : ◌≡◌ {A = ℕ × ℕ} (pair_at steps k) (p, q) = get_or_default steps k (0, 0) (p, q) inside ∙ at in
+    let first : get_or names p 0 ≡ (pair_at pairs k).0 =
+    (h.sound (pair_at pairs k).0 p (ends.0 ∙ ap (λ (x : ℕ × ℕ). Some x.0) is)).1 in
+    let second : get_or names q 0 ≡ (pair_at pairs k).1 =
+    (h.sound (pair_at pairs k).1 q (ends.1 ∙ ap (λ (x : ℕ × ℕ). Some x.1) is)).1 in
     subst (λ (x : ℕ). Contains {X = ℕ × ℕ} pairs (x, get_or names q 0)) (sym first)
-    (subst (λ (x : ℕ). Contains {X = ℕ × ℕ} pairs ((step_at pairs k).0, x)) (sym second) (Contains-get_or pairs k (0, 0) low))
+    (subst (λ (x : ℕ). Contains {X = ℕ × ℕ} pairs ((pair_at pairs k).0, x)) (sym second) (Contains-get_or pairs k (0, 0) low))
 
 pub named_step : (find : ℕ → Option ℕ) (pairs steps : List (ℕ × ℕ)) → AreSteps find pairs steps → (a b : ℕ) → Contains {X = ℕ × ℕ} pairs (a, b)
     → (p q : ℕ) × Contains {X = ℕ × ℕ} steps (p, q) × (find a ≡ Some p) × (find b ≡ Some q)
 named_step find pairs steps s a b (k, low, at) =
     let size = s.sized in
     let ends = s.ends k low in
-    let is : ◌≡◌ {A = ℕ × ℕ} (step_at pairs k) (a, b) = get_or_default pairs k (0, 0) (a, b) low ∙ at in (
-      (step_at steps k).0,
-      (step_at steps k).1,
+    let is : ◌≡◌ {A = ℕ × ℕ} (pair_at pairs k) (a, b) = get_or_default pairs k (0, 0) (a, b) low ∙ at in (
+      (pair_at steps k).0,
+      (pair_at steps k).1,
       Contains-get_or steps k (0, 0) (omega arith),
       ap (λ (x : ℕ × ℕ). find x.0) (sym is) ∙ ends.0,
       ap (λ (x : ℕ × ℕ). find x.1) (sym is) ∙ ends.1,

@@ -7,7 +7,8 @@ use Rattle.links.specs.Links.{Links, Has}
 use Rattle.links.specs.Kept.{names_of}
 use Rattle.links.specs.Pairs.{AreSplit}
 use Rattle.links.specs.Parts.{StandsBefore}
-use Rattle.links.specs.Ways.{AreWays, step_at, turned}
+use Rattle.places.specs.Chains.{pair_at, turned}
+use Rattle.links.specs.Ways.{AreWays}
 use Rattle.links.specs.Walkers.{IsReady, mark_at}
 use Rattle.links.specs.declared.gathering.Search.{Search}
 
@@ -27,7 +28,7 @@ MarksMore count old places new =
 -- the pair of a step that leads from this place
 abbrev pub IsFrom : List (ℕ × ℕ) → List (ℕ × ℕ) → ℕ → ℕ → ℕ → Type 0
 IsFrom steps pairs place a b =
-    (k : ℕ) × (k < length pairs) × ((step_at steps k).1 ≡ place) × (◌≡◌ {A = ℕ × ℕ} (step_at pairs k) (a, b))
+    (k : ℕ) × (k < length pairs) × ((pair_at steps k).1 ≡ place) × (◌≡◌ {A = ℕ × ℕ} (pair_at pairs k) (a, b))
 
 -- the pair of a step that leads from one of these places
 abbrev pub IsFromOne : List (ℕ × ℕ) → List (ℕ × ℕ) → List ℕ → ℕ → ℕ → Type 0

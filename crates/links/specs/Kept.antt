@@ -5,9 +5,10 @@ use Rattle.graphs.specs.Certificates.{Txs}
 use Rattle.graphs.specs.declared.names.Kin.{Kin}
 use Rattle.graphs.specs.declared.names.Kin.TheVariants.{Ancestors, Descendants}
 use Rattle.links.specs.Links.{AreLinks}
-use Rattle.links.specs.Ways.{AreWays, turned}
+use Rattle.places.specs.Chains.{turned}
+use Rattle.links.specs.Ways.{AreWays}
 use Rattle.links.specs.Walkers.{IsReady}
-use Rattle.links.specs.Places.{ArePlaces, AreSteps}
+use Rattle.places.specs.Places.{ArePlaces, AreSteps}
 use Rattle.links.specs.declared.maps.Maps.{Maps}
 use Rattle.links.specs.declared.ways.Ways.{Ways}
 use Rattle.links.specs.declared.walker.Walker.{Walker}

@@ -3,6 +3,7 @@ use Rattle.std.specs.Prelude.{◌↔◌, ℕ, ℤ, List, Contains}
 use Rattle.fee_rate.specs.Limits.{IsFee, IsSize}
 use Rattle.graphs.specs.Graphs.{Graph, IsGraph}
 use Rattle.graphs.specs.Certificates.{Txs, graph_of}
+pub use Rattle.places.specs.Places.{AreAmong}
 
 pub record Links : Type 0 where
   pub txs : Txs
@@ -24,10 +25,6 @@ AreInRange txs = (id : ℕ) (fee : ℤ) (size : ℕ) → Contains {X = ℕ × �
 pub record AreLinks (links : Links) : Type 0 where
   pub in_range : AreInRange links.txs
   pub graph_is : IsGraph (graph links)
-
--- The pairs have both ends among names.
-abbrev pub AreAmong : List ℕ → List (ℕ × ℕ) → Type 0
-AreAmong names pairs = (parent child : ℕ) → Contains {X = ℕ × ℕ} pairs (parent, child) → Contains names parent × Contains names child
 
 -- Two lists have the same pairs, in whatever order and however often.
 abbrev pub AreSame : List (ℕ × ℕ) → List (ℕ × ℕ) → Type 0

@@ -1,9 +1,6 @@
 -- Lists of pairs in which each pair stands once.
-use Rattle.std.specs.Prelude.{◌≡◌, ◌↔◌, ◌⊎◌, ℕ, Bool, true, ◌&&◌, nat_eq, List, Contains}
+use Rattle.std.specs.Prelude.{◌≡◌, ◌↔◌, ◌⊎◌, ℕ, Bool, true, List, Contains}
 use Rattle.lists.specs.Distinct.{AreDistinct}
-
-abbrev pub same_pair : ℕ × ℕ → ℕ × ℕ → Bool
-same_pair x y = nat_eq x.0 y.0 && nat_eq x.1 y.1
 
 -- What a set has is what stands in the list, each pair once.
 pub record ListsSet (has : ℕ × ℕ → Bool) (list : List (ℕ × ℕ)) : Type 0 where

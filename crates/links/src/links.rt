@@ -15,12 +15,13 @@ use crate::gathering::components;
 use crate::link_walk::LinkWalk;
 use crate::listing::{has_place, list_names};
 use crate::making::{joined, linked, without};
-use crate::maps::{Maps, maps_of, place_of};
+use crate::maps::{Maps, maps_of};
 use crate::pairs::each_once;
 use crate::pricing::with_fee;
 use crate::walker::{Walker, walk, walk_all};
 use graphs::{Kin, TxId};
 use outside::NoMemory;
+use places::place_of;
 use std::alloc::Global;
 use std::marker::Model;
 

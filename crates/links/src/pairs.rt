@@ -2,7 +2,8 @@ ghost use Rattle.std.specs.Prelude.{◌≡◌, IfOk, OnOk};
 ghost use Rattle.std.specs.HashSet as bag;
 ghost use Rattle.lists.specs.Distinct.{AreDistinct};
 ghost use Rattle.links.specs.Links.{AreSame};
-ghost use Rattle.links.specs.Pairs.{HasMore, ListsSet, same_pair};
+ghost use Rattle.lists.specs.Pairs.{same_pair};
+ghost use Rattle.links.specs.Pairs.{HasMore, ListsSet};
 
 use graphs::TxId;
 use outside::NoMemory;

@@ -2,14 +2,15 @@ ghost use Rattle.std.specs.Prelude.{◌≡◌, ◌<◌, ◌≤◌, ℕ, length, 
 ghost use Rattle.std.specs.HashMap as hash;
 ghost use Rattle.links.specs.Kept.{ways_to};
 ghost use Rattle.links.specs.Places.{IsPlaceOf};
-ghost use Rattle.links.specs.Places as look_up;
+ghost use Rattle.places.specs.Places as look_up;
 ghost use Rattle.links.specs.Ways.{AreWays};
 ghost use Rattle.links.specs.Walkers.{IsReady, IsWalking, Finds, FindsAll, FindsFrom};
 
-use crate::maps::{Maps, place_of};
+use crate::maps::Maps;
 use crate::ways::Ways;
 use graphs::{Kin, TxId};
 use outside::NoMemory;
+use places::place_of;
 use std::alloc::Global;
 
 /// Room for walks: a mark for each place, and the places that a walk has found.

@@ -1,17 +1,10 @@
 ghost use Rattle.std.specs.Prelude.{◌≡◌, length, map, IfOk};
-ghost use Rattle.links.specs.Ways.{AreChains, AreWays, AreWithin, turned};
+ghost use Rattle.places.specs.Chains.{AreChains, AreWithin, turned};
+ghost use Rattle.links.specs.Ways.{AreWays};
 
 use outside::NoMemory;
+use places::{Chains, linked};
 use std::alloc::Global;
-
-/// For each place the steps from it, from the last to the first, without a list for each.
-#[derive(Drop)]
-pub(crate) struct Chains {
-    /// For each place how many of the steps have to be looked at for it: up to its last one, or none.
-    pub(crate) last: Vec<usize>,
-    /// For each step how many of the steps before it: up to the one before from the same place, or none.
-    pub(crate) before: Vec<usize>,
-}
 
 /// Steps (to, from) between places.
 #[derive(Drop)]
@@ -32,21 +25,6 @@ pub(crate) fn ways_of(
 {
     let chains = linked(alloc, count, steps.as_slice())?;
     Ok(Ways { steps, chains })
-}
-
-/// The chains of steps between this many places.
-fn linked(alloc: Global, count: usize, steps: &[(usize, usize)]) -> Result<Chains, NoMemory>
-    requires { AreWithin count steps.now }
-    ensures sized { IfOk result (λ chains. length chains.last.items ≡ count) }
-    ensures chains { IfOk result (λ chains. AreChains steps.now chains.last.items chains.before.items) }
-{
-    let mut last = vec![in alloc; 0; count]?;
-    let mut before = Vec::with_capacity(alloc, steps.len())?;
-    for (at, step) in steps.iter().enumerate() {
-        before.push(last[step.1])?;
-        last[step.1] = at + 1;
-    }
-    Ok(Chains { last, before })
 }
 
 /// The steps the other way.

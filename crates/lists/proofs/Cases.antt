@@ -1,5 +1,5 @@
 -- The cases of tests, of options and of results, beside those of std.
-use Rattle.std.proofs.Common.{◌≡◌, ℕ, ◌≢◌, Bool, true, false, not, ◌&&◌, ◌||◌, nat_eq, ◌⊎◌, inl, inr, Option, Some, None, is_some, Result, Ok, Err, OnErr, refl, sym, ap, ◌∙◌, eq-eqb}
+use Rattle.std.proofs.Common.{◌≡◌, ℕ, ◌≢◌, Bool, true, false, cond, not, ◌&&◌, ◌||◌, nat_eq, ◌⊎◌, inl, inr, Option, Some, None, is_some, Result, Ok, Err, OnErr, refl, sym, ap, ◌∙◌, eq-eqb}
 
 -- two tests that follow from each other are the same
 pub same_test : (a b : Bool) → (a ≡ true → b ≡ true) → (b ≡ true → a ≡ true) → a ≡ b
@@ -58,3 +58,12 @@ swap (inr b) = inl b
 pub on_err : {T E P : Type 0} (r : Result T E) → P → OnErr r P
 on_err (Ok x) p = tt
 on_err (Err e) p = p
+
+-- what a set has with one entry more
+pub put_cases : (e h : Bool) → cond e true h ≡ true → (e ≡ true) ⊎ (h ≡ true)
+put_cases true h k = inl refl
+put_cases false h k = inr k
+
+pub put_old : (e h : Bool) → h ≡ true → cond e true h ≡ true
+put_old true h k = refl
+put_old false h k = k

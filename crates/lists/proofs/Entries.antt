@@ -1,5 +1,5 @@
 -- What lists hold.
-use Rattle.std.proofs.Common.{◌≡◌, ◌≤◌, zero, suc, List, [], ◌∷◌, ◌++◌, Bool, true, false, cond, length, true≢false, refl, sym, ap, ◌∙◌, subst, inl, inr, ◌⊎◌, arith}
+use Rattle.std.proofs.Common.{◌≡◌, ◌≤◌, zero, suc, List, [], ◌∷◌, ◌++◌, Bool, true, false, cond, length, refl, sym, ap, ◌∙◌, subst, inl, inr, ◌⊎◌, arith, length-append}
 use Rattle.std.specs.Prelude.{Contains, All, map}
 use Rattle.std.proofs.lemmas.List.Elements.{All-nil, All-cons, All-head, All-tail}
 use Rattle.std.specs.List.{filter}
@@ -114,3 +114,16 @@ All-front P (x ∷ xs) ys h = All-cons P x xs (All-head P x (xs ++ ys) h) (All-f
 pub All-back : {A : Type 0} (P : A → Type 0) (xs ys : List A) → All P (xs ++ ys) → All P ys
 All-back P [] ys h = h
 All-back P (x ∷ xs) ys h = All-back P xs ys (All-tail P x (xs ++ ys) h)
+
+-- where a list with one more entry is cut at an entry: at the new one, or within the list
+pub push_cases : {A : Type 0} (xs : List A) (x y : A) (before after : List A) → xs ++ x ∷ [] ≡ before ++ y ∷ after
+    → ((before ≡ xs) × (x ≡ y)) ⊎ ((rest : List A) × (xs ≡ before ++ y ∷ rest))
+push_cases [] x y [] after e = inl (refl, first_of e)
+push_cases [] x y (b ∷ before) after e = absurd (omega (arith, ap length (rest_of e), length-append before (y ∷ after)))
+push_cases (a ∷ xs) x y [] after e = inr (xs, ap (λ z. z ∷ xs) (first_of e))
+push_cases (a ∷ xs) x y (b ∷ before) after e =
+    let head : a ≡ b = first_of e in
+    elim (push_cases xs x y before after (rest_of e)) [
+      | inl found ↦ inl (λ i. sym head i ∷ found.0 i, found.1)
+      | inr found ↦ inr (found.0, λ i. head i ∷ found.1 i)
+    ]

@@ -9,3 +9,4 @@ pub mod Flats
 pub mod Keys
 pub mod Ranges
 pub mod Follows
+pub mod Pairs

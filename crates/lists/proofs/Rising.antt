@@ -1,27 +1,15 @@
 -- Lists of numbers that rise.
 use Rattle.std.proofs.Common.{◌≡◌, ℕ, zero, suc, ◌+◌, ◌<◌, ◌≤◌, List, [], ◌∷◌, ◌++◌, length, slice_index, Contains, inl, inr, sym, ap, ◌∙◌, subst, arith}
 use Rattle.std.proofs.lemmas.Bool.{cases_order}
-use Rattle.std.proofs.lemmas.List.Elements.{Contains-append_cases}
 use Rattle.std.proofs.Math.Seq.{get_or-append_seam}
 use Rattle.lists.specs.Distinct.{AreDistinct}
 use Rattle.lists.specs.Rising.{AllAbove, IsRising}
-use Rattle.lists.proofs.Entries.{Contains-cases, Contains-one, none_in_empty}
+use Rattle.lists.proofs.Entries.{Contains-cases, none_in_empty}
 
 -- a number below all of a list is below the one at a cut
 pub above_at : (x : ℕ) (ys zs : List ℕ) (p : ℕ) → AllAbove x (ys ++ p ∷ zs) → x < p
 above_at x [] zs p h = h.0
 above_at x (y ∷ ys) zs p h = above_at x ys zs p h.1
-
-pub IsRising-split : (ys zs : List ℕ) (p : ℕ) → IsRising (ys ++ p ∷ zs) → ((q : ℕ) → Contains ys q → q < p) × AllAbove p zs
-IsRising-split [] zs p h = (λ q c. absurd (omega (arith, c.1)), h.0)
-IsRising-split (y ∷ ys) zs p h =
-    let rest : ((q : ℕ) → Contains ys q → q < p) × AllAbove p zs = IsRising-split ys zs p h.1 in (
-      λ q c. elim (Contains-append_cases (y ∷ []) ys q c) as (λ _. q < p) [
-        | inl first ↦ let same : y ≡ q = Contains-one y q first in let low : y < p = above_at y ys zs p h.0 in omega arith
-        | inr later ↦ rest.0 q later
-      ],
-      rest.1,
-    )
 
 -- ---- places in a rising list
 

@@ -1,3 +1,4 @@
 pub mod Distinct
 pub mod Rising
 pub mod Walks
+pub mod Pairs

@@ -70,10 +70,6 @@ module _ (nodes new : Nodes ℕ) (es now : List (ℕ × Key)) (id : ℕ) (key : 
           absurd (apart (same_some k key (sym before ∙ ap (key_of es) same ∙ has)))
       back (inr other) (inr apart) value = key-there now es id None keys q other ∙ (own q k).1 (sym (updates.others k apart) ∙ value)
 
-  -- what is live then has the name that it had
-  pub drop-values : (other : Key) → IsLive new other → value_at new other ≡ value_at nodes other
-  drop-values other live = updates.others other (λ same. true≢false (sym live ∙ ap is_some (ap (value_at new) same ∙ updates.changed)))
-
 -- where names stay in their nodes
 pub same-own : (nodes new : Nodes ℕ) (es : List (ℕ × Key)) → AreKeys nodes es → ((key : Key) → value_at new key ≡ value_at nodes key) → AreKeys new es
 same-own nodes new es own same q k = (λ has. same k ∙ (own q k).0 has, λ value. (own q k).1 (sym (same k) ∙ value))

@@ -32,10 +32,6 @@ pub after-key : (nodes : Nodes ℕ) (es : List (ℕ × Key)) (spare r : ℕ) →
 after-key nodes es spare r below id key is =
     after-is nodes es spare r below id ∙ ap (λ o. unwrap_or (option_map (next_name nodes r) o) id) is
 
-pub after-none : (nodes : Nodes ℕ) (es : List (ℕ × Key)) (spare r : ℕ) → r < 2 → (id : ℕ) → key_of es id ≡ None → after (table_of nodes es spare) r id ≡ id
-after-none nodes es spare r below id none =
-    after-is nodes es spare r below id ∙ ap (λ o. unwrap_or (option_map (next_name nodes r) o) id) none
-
 -- a live name has a key
 pub named-key : (nodes : Nodes ℕ) (es : List (ℕ × Key)) (spare id : ℕ) → IsNamed (table_of nodes es spare) id → (key : Key) × (key_of es id ≡ Some key)
 named-key nodes es spare id named = some_key (key_of es id) (sym (names-keys es id) ∙ named)

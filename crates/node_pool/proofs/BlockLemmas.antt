@@ -21,12 +21,6 @@ module _ {X : Type 0} where
   get_or-places (y ∷ xs) k zero x found = found
   get_or-places (y ∷ xs) k (suc i) x found = get_or-places xs k i x found
 
-  -- the first empty place
-  pub get_or-places_end : (xs : List X) (k : ℕ) → get_or (places xs k) (length xs) None ≡ None
-  get_or-places_end [] zero = refl
-  get_or-places_end [] (suc k) = refl
-  get_or-places_end (x ∷ xs) k = get_or-places_end xs k
-
   pub set-places_end : (xs : List X) (k : ℕ) (x : X) → set (places xs (suc k)) (length xs) (Some x) ≡ places (xs ++ x ∷ []) k
   set-places_end [] k x = refl
   set-places_end (y ∷ xs) k x = ap (λ ps. Some y ∷ ps) (set-places_end xs k x)

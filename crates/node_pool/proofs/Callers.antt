@@ -2,10 +2,9 @@
 use Rattle.std.proofs.Common.{◌≡◌, ◌≢◌, ℕ, suc, List, [], ◌∷◌, Option, Some, None, IsSome, slice_get, refl, sym, ap, subst, ◌∙◌, arith, true≢false}
 use Rattle.std.specs.Prelude.{Contains}
 use Rattle.node_pool.specs.declared.pool.Key.{Key}
-use Rattle.node_pool.specs.Nodes.{Nodes, value_at, IsLive, next_slot, next_key, SameRing, Updates, PartsFrom}
+use Rattle.node_pool.specs.Nodes.{Nodes, value_at, IsLive, next_key, SameRing, Updates, PartsFrom}
 use Rattle.node_pool.specs.Cycles.{GoesAlong}
 use Rattle.node_pool.specs.RingKeys.{IsRing}
-use Rattle.node_pool.proofs.Cycles.{Reaches-trans}
 
 module _ {T : Type 0} where
   pub SameRing-refl : (n : Nodes T) (r : ℕ) (a : Key) → IsLive n a → SameRing n r a a
@@ -13,15 +12,6 @@ module _ {T : Type 0} where
 
   pub SameRing-sym : (n : Nodes T) (r : ℕ) (a b : Key) → SameRing n r a b → SameRing n r b a
   SameRing-sym n r a b ring = record { from = ring.to; to = ring.from; steps = ring.back; back = ring.steps }
-
-  pub SameRing-trans : (n : Nodes T) (r : ℕ) (a b c : Key) → SameRing n r a b → SameRing n r b c → SameRing n r a c
-  SameRing-trans n r a b c one two =
-      record {
-        from = one.from;
-        to = two.to;
-        steps = Reaches-trans (next_slot n r) a.slot b.slot c.slot one.steps two.steps;
-        back = Reaches-trans (next_slot n r) c.slot b.slot a.slot two.back one.back;
-      }
 
   -- a key that had no node is none that had one
   pub fresh-differs : (n : Nodes T) (old fresh : Key) → IsLive n old → value_at n fresh ≡ None → old ≢ fresh

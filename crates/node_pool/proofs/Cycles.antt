@@ -90,9 +90,6 @@ module _ (p q : ℕ → ℕ) (mutual-pq : IsMutual p q) where
   pub next-one_to_one : (s t : ℕ) → p s ≡ p t → s ≡ t
   next-one_to_one s t same = sym (mutual-pq s).0 ∙ ap q same ∙ (mutual-pq t).0
 
-  pub prev-one_to_one : (s t : ℕ) → q s ≡ q t → s ≡ t
-  prev-one_to_one s t same = sym (mutual-pq s).1 ∙ ap p same ∙ (mutual-pq t).1
-
   -- a walk of as many steps from two numbers to one begins at one number
   walked-back : (k s t : ℕ) → walked p k s ≡ walked p k t → s ≡ t
   walked-back zero s t same = same

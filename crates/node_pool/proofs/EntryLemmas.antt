@@ -2,7 +2,7 @@
 use Rattle.std.proofs.Common.{◌≡◌, ◌≢◌, ◌⊎◌, ℕ, zero, suc, ◌+◌, ◌-◌, ◌<◌, List, [], ◌∷◌, ◌++◌, map, length, get_or, set, Some, None, is_some, IsSome, count_by, cond, slice_get, refl, sym, ap, subst, ◌∙◌, inl, inr, arith, length-set, true≢false}
 use Rattle.std.proofs.lemmas.List.{map-set, map_push, length-map, length_push, get_or-map, get_or-set_same, get_or-set_other, get_or_past}
 use Rattle.std.proofs.lemmas.List.Sums.{sum_by-set, sum_by_push}
-use Rattle.std.proofs.lemmas.Option.{slice_get_within, slice_get-get_or, slice_get_read, get_or_from_slice_get}
+use Rattle.std.proofs.lemmas.Option.{slice_get_within, slice_get-get_or, get_or_from_slice_get}
 use Rattle.node_pool.specs.declared.store.Entry.{Entry}
 use Rattle.node_pool.specs.declared.store.Entry.TheVariants.{Vacant, Held}
 use Rattle.node_pool.specs.Entry.{node_of, IsVacantList, IsSound}
@@ -96,16 +96,6 @@ module _ {N : Type 0} where
 
   pub next_within : (es : List (Entry N)) (len next : ℕ) → IsSound es len next → next ≢ length es → next < length es
   next_within es len next sound before = slice_get_within es next _ (vacant_before_end es len next sound before).1
-
-  -- what a read at the next key gives is the entry there
-  pub read_at_next : (es : List (Entry N)) (len next : ℕ) (e : Entry N) → IsSound es len next
-      → next ≢ length es → e ≡ get_or es next e → slice_get es next ≡ Some e
-  read_at_next es len next e sound before read = slice_get_read es (length es) next e refl (next_within es len next sound before) read
-
-  pub next_is_not_held : (es : List (Entry N)) (len next : ℕ) (node : N) → IsSound es len next → slice_get es next ≡ Some (Held node) → ⊥
-  next_is_not_held es len next node sound found =
-      let vacant = (vacant_before_end es len next sound (λ e. omega (arith, slice_get_within es next _ found))).1 in
-      cc
 
   pub IsSound-push : (es : List (Entry N)) (len next : ℕ) (node : N) → IsSound es len next
       → next ≡ length es → IsSound (es ++ Held node ∷ []) (len + 1) (next + 1)

@@ -67,9 +67,6 @@ pub record IsGrown (width : ℕ) (old new : List Link) (slots : ℕ) : Type 0 wh
   pub len : length new ≡ slots * width
   pub same : (r s : ℕ) → r < width → get_or new (s * width + r) (self_link s) ≡ get_or old (s * width + r) (self_link s)
 
-pub IsGrown-start : (width : ℕ) (old : List Link) (slots : ℕ) → length old ≡ slots * width → IsGrown width old old slots
-IsGrown-start width old slots len = record { len = len; same = λ r s _. refl }
-
 pub IsGrown-push : (width : ℕ) (old new : List Link) (slots : ℕ) → length old ≤ slots * width
     → IsGrown width old new slots → IsGrown width old (new ++ replicate width (self_link slots)) (slots + 1)
 IsGrown-push width old new slots shorter grown =
@@ -123,23 +120,6 @@ elsewhere-of_two old mid new r a b c d first second =
       other_rings = λ q s in_row apart. second.other_rings q s (subst (λ w. q < w) (sym first.width) in_row) apart ∙ first.other_rings q s in_row apart;
     }
 
-pub IsCut-of : (old mid new : Links) (r slot : ℕ) → Connects old mid r (prev_in old r slot) (next_in old r slot)
-    → Connects mid new r slot slot → IsCut old new r slot
-IsCut-of old mid new r slot first second =
-    record {
-      elsewhere = elsewhere-of_two old mid new r (prev_in old r slot) (next_in old r slot) slot slot first second;
-      next = record {
-        at_a = second.next;
-        past = λ apart. second.next_others (prev_in old r slot) apart ∙ first.next;
-        others = λ s here before. second.next_others s here ∙ first.next_others s before;
-      };
-      prev = record {
-        at_a = second.prev;
-        past = λ apart. second.prev_others (next_in old r slot) apart ∙ first.prev;
-        others = λ s here after. second.prev_others s here ∙ first.prev_others s after;
-      };
-    }
-
 pub IsJoined-of : (old mid new : Links) (r a b : ℕ) → a ≢ b → next_in old r a ≢ next_in old r b
     → Connects old mid r a (next_in old r b) → Connects mid new r b (next_in old r a) → IsJoined old new r a b
 IsJoined-of old mid new r a b apart after_apart first second =
@@ -169,10 +149,6 @@ pub record IsCutAll (old new : Links) (slot n : ℕ) : Type 0 where
   pub width : new.width ≡ old.width
   pub next : (r : ℕ) → r < n → Cuts (next_in old r) (next_in new r) (prev_in old r) slot
   pub prev : (r : ℕ) → r < n → Cuts (prev_in old r) (prev_in new r) (next_in old r) slot
-
-pub IsCutBelow-start : (l : Links) (slot : ℕ) → IsCutBelow l l slot 0
-IsCutBelow-start l slot =
-    record { slots = refl; width = refl; next = λ r below. absurd (omega arith); prev = λ r below. absurd (omega arith); rest = λ r s _ _. refl }
 
 pub IsCutBelow-step : (old mid new : Links) (slot k : ℕ) → k < old.width → IsCutBelow old mid slot k → IsCut mid new k slot → IsCutBelow old new slot (k + 1)
 IsCutBelow-step old mid new slot k in_range so_far cut =

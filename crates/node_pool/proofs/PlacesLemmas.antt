@@ -27,9 +27,6 @@ module _ {S : Type 0} (p : Inside S) (are : ArePlaces p) where
       let room : 2 ^ length bs * w ≡ p.room * w + w = ap (λ n. n * w) (sym are.room.0) ∙ add-mul p.room 1 w ∙ (omega arith) in
       omega arith
 
-  pub room-small : p.room < 2 ^ 32
-  room-small = let most = pow_mono are.room.1 in omega (arith, are.room.0)
-
   pub slot-room : (slot column : ℕ) → column < w → slot * w + column < length (flat bs) → slot < p.room
   slot-room slot column in_row within =
       elim (leb_tells p.room slot) [

@@ -2,11 +2,11 @@
 use Rattle.std.proofs.Common.{◌≡◌, ◌≢◌, ◌⊎◌, ℕ, zero, suc, ◌+◌, ◌*◌, ◌<◌, ◌≤◌, ◌^◌, List, [], ◌∷◌, map, get_or, Option, Some, None, IsSome, is_some, refl, sym, ap, subst, ◌∙◌, inl, inr, arith, true≢false}
 use Rattle.std.proofs.lemmas.Bool.{cases_eq}
 use Rattle.node_pool.specs.Cycles.{walked, Reaches, IsMutual, Splices, Cuts}
-use Rattle.node_pool.proofs.Cycles.{comes_back, comes_back_within, next-below, next-one_to_one, Reaches-sym}
+use Rattle.node_pool.proofs.Cycles.{comes_back, comes_back_within, next-one_to_one, Reaches-sym}
 use Rattle.node_pool.proofs.Joins.{mutual_spliced, mutual_cut}
 use Rattle.node_pool.specs.Row.{grown}
 use Rattle.node_pool.specs.Slots.{Slots, node_in, IsHeld, held_count, Updates}
-use Rattle.node_pool.specs.Links.{Links, self_link, next_in, prev_in, SameLinks, SameElsewhere, IsCut, IsJoined}
+use Rattle.node_pool.specs.Links.{Links, self_link, next_in, prev_in, SameElsewhere, IsCut, IsJoined}
 use Rattle.node_pool.proofs.LinkLemmas.{IsCutAll}
 use Rattle.node_pool.specs.declared.rings.Link.{Link}
 use Rattle.node_pool.specs.declared.pool.Key.{Key}
@@ -66,18 +66,6 @@ module _ {T : Type 0} where
     -- past the slots nothing moves
     pub still : (r slot : ℕ) → r < R → l.slots ≤ slot → next_in l r slot ≡ slot
     still r slot in_range past = pool.alone r slot in_range (not_held s slot (λ held. let below = pool.covered slot held in omega arith))
-
-    still_back : (r slot : ℕ) → r < R → l.slots ≤ slot → prev_in l r slot ≡ slot
-    still_back r slot in_range past = ap (prev_in l r) (sym (still r slot in_range past)) ∙ (pool.mutual-rings r in_range slot).0
-
-    pub next-in_range : (r slot : ℕ) → r < R → IsHeld s slot → next_in l r slot < l.slots
-    next-in_range r slot in_range held =
-        next-below (next_in l r) (prev_in l r) (pool.mutual-rings r in_range) l.slots slot (λ t past. still r t in_range past) (pool.covered slot held)
-
-    pub prev-in_range : (r slot : ℕ) → r < R → IsHeld s slot → prev_in l r slot < l.slots
-    prev-in_range r slot in_range held =
-        next-below (prev_in l r) (next_in l r) (λ t. let m = pool.mutual-rings r in_range t in (m.1, m.0)) l.slots slot
-        (λ t past. still_back r t in_range past) (pool.covered slot held)
 
     pub comes_round : (r slot : ℕ) → r < R → Reaches (next_in l r) (next_in l r slot) slot
     comes_round r slot in_range =
@@ -224,25 +212,6 @@ module _ {T : Type 0} where
     same_rings t new r slots steps =
         SameRings-of (nodes_of s l issued) (nodes_of t new issued) r (λ key. ap (λ xs. numbered key.number (get_or xs key.slot None)) slots)
         (next_slot-of t new issued r ∙ steps ∙ sym (next_slot-of s l issued r))
-
-    -- room for more nodes and links keeps a pool
-    pub IsPool-grow : (t : Slots (Node T)) (m : Links) → t.slots ≡ s.slots → SameLinks l m → l.slots ≤ m.slots
-        → (held_count t ≤ t.room) × (t.room ≤ m.slots) × (m.slots < 2 ^ 32) → (m.slots ≡ t.room) ⊎ (m.slots ≡ grown t.room) → IsPool R t m issued
-    IsPool-grow t m slots same more room grows =
-        let in_row : (r : ℕ) → r < R → r < l.width = λ r below. subst (λ w. r < w) (sym pool.width) below in
-        let next : (r : ℕ) → r < R → next_in m r ≡ next_in l r = λ r below j slot. (same.links r slot (in_row r below) j).next in
-        let prev : (r : ℕ) → r < R → prev_in m r ≡ prev_in l r = λ r below j slot. (same.links r slot (in_row r below) j).prev in
-        let read : (slot : ℕ) → node_in t slot ≡ node_in s slot = λ slot. ap (λ xs. get_or xs slot None) slots in
-        record {
-          numbers = λ slot node found. pool.numbers slot node (sym (read slot) ∙ found);
-          width = same.width ∙ pool.width;
-          covered = λ slot held. let below = pool.covered slot (subst IsSome (read slot) held) in omega arith;
-          mutual-rings =
-              λ r below. subst (λ (f : (ℕ → ℕ) × (ℕ → ℕ)). IsMutual f.0 f.1) (λ j. (sym (next r below) j, sym (prev r below) j)) (pool.mutual-rings r below);
-          alone = λ r slot below vacant. ap (λ (f : ℕ → ℕ). f slot) (next r below) ∙ pool.alone r slot below (sym (read slot) ∙ vacant);
-          room = room;
-          grows = grows;
-        }
 
     pub IsPool-insert : (t : Slots (Node T)) (slot : ℕ) (node : Node T) → node.number ≡ issued → node_in s slot ≡ None
         → Updates s t slot (Some node) → slot < t.room → held_count t ≤ t.room → IsPool R t l (issued + 1)

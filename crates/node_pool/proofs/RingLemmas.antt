@@ -174,11 +174,3 @@ module _ {T : Type 0} where
               },
         );
       }
-
-  -- where a key has no node, nothing changes
-  pub PartsFrom-absent : (n : Nodes T) (r : ℕ) (key : Key) → value_at n key ≡ None → PartsFrom n n r key
-  PartsFrom-absent n r key gone =
-      record {
-        alone = λ x ring. absurd (true≢false (sym (subst IsSome gone ring.from)));
-        others = λ x y _ _. (λ ring. ring, λ ring. ring);
-      }

@@ -8,15 +8,11 @@ mod chunk_index_tests;
 #[cfg(test)]
 mod closure_flow_tests;
 #[cfg(test)]
-mod cluster_store_tests;
-#[cfg(test)]
 mod cluster_tests;
 #[cfg(test)]
 mod dep_graph_tests;
 #[cfg(test)]
 mod drawn_tests;
-#[cfg(test)]
-mod levels_tests;
 #[cfg(test)]
 mod linearize_tests;
 #[cfg(test)]

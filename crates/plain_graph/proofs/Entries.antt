@@ -1,8 +1,7 @@
 -- The entry of a name in a list of transactions.
-use Rattle.std.proofs.Common.{◌≡◌, ℕ, ◌+◌, ◌<◌, ◌≤◌, Bool, true, false, cond, eqb, List, [], ◌∷◌, ◌++◌, length, drop, get_or, sym, refl, ap, subst, ◌∙◌, inl, inr, arith, Option, None, Some, ◌↔◌}
+use Rattle.std.proofs.Common.{◌≡◌, ℕ, ◌+◌, ◌<◌, ◌≤◌, Bool, true, false, cond, eqb, List, [], ◌∷◌, ◌++◌, sym, refl, ap, subst, ◌∙◌, inl, inr, arith, Option, None, Some, ◌↔◌}
 use Rattle.std.specs.Prelude.{Contains, is_some, IsSome, IsTrue}
 use Rattle.std.proofs.lemmas.Bool.Decides.{Decides-eqb, nat_tests}
-use Rattle.std.proofs.lemmas.List.{at_drop_more}
 use Rattle.std.proofs.lemmas.List.Elements.{All-head, All-tail}
 use Rattle.std.specs.Cmp.{nat_eq_equiv}
 use Rattle.lists.proofs.Cases.{some_none}
@@ -58,11 +57,6 @@ entry-push (first ∷ txs) tx id none =
       | true ↦ λ same none. absurd (some_none (entry_of first) none)
       | false ↦ λ other none. ap (cond (eqb first.id id) (Some (entry_of first))) (entry-push txs tx id none) ∙ swapped first tx id (entry_in txs id) other
     ]) refl none
-
--- what a loop over transactions has seen and has still to see
-pub entry-drop : (txs : List Tx) (i : ℕ) (d : Tx) (id : ℕ) → i < length txs
-    → entry_in (drop i txs) id ≡ cond (eqb (get_or txs i d).id id) (Some (entry_of (get_or txs i d))) (entry_in (drop (i + 1) txs) id)
-entry-drop txs i d id below = at_drop_more (λ txs. entry_in txs id) txs i d below
 
 small_one : (tx : Tx) (b : Bool) (old : Option Entry) → tx.size ≤ MAX_SIZE → size_in old ≤ MAX_SIZE → size_in (cond b (Some (entry_of tx)) old) ≤ MAX_SIZE
 small_one tx true old here later = here

@@ -5,7 +5,7 @@ use Rattle.std.proofs.lemmas.List.{map_push, take_more, take_all}
 use Rattle.std.proofs.lemmas.List.Elements.{Contains-push_cases, Contains-get_or}
 use Rattle.lists.specs.Distinct.{AreDistinct}
 use Rattle.lists.proofs.Distinct.{distinct_within}
-use Rattle.lists.proofs.Entries.{Contains-head, Contains-map, none_in_empty}
+use Rattle.lists.proofs.Entries.{Contains-head, Contains-map}
 use Rattle.graphs.specs.Graphs.{Graph, AreConnected, Lists}
 use Rattle.graphs.proofs.WalkLemmas.{AreConnected-sym, AreConnected-trans}
 use Rattle.graphs.specs.declared.names.Level.{Level}
@@ -59,9 +59,6 @@ IsInNone set txs pairs id =
 -- of the first so many transactions none is in a component over the limits
 abbrev pub AreInNone : Limits → List Tx → List (ℕ × ℕ) → ℕ → Type 0
 AreInNone set txs pairs i = (id : ℕ) → Contains (names_of (take i txs)) id → IsInNone set txs pairs id
-
-pub in_none_first : (set : Limits) (txs : List Tx) (pairs : List (ℕ × ℕ)) → AreInNone set txs pairs 0
-in_none_first set txs pairs id here = absurd (none_in_empty id here)
 
 in_none : (set : Limits) (txs : List Tx) (pairs : List (ℕ × ℕ)) (id : ℕ) (ids : List ℕ) → Lists (AreConnected pairs id) ids
     → (AreOver (bounds_of set) (sizes_in txs) ids → ⊥) → IsInNone set txs pairs id

@@ -87,11 +87,6 @@ child_of id parent from to old new is other puts =
     (λ a b all. (all.0, (only_pair (from, to) id b all.2).1))
     puts
 
-pub no_child_of : (id parent from to : ℕ) (list : List (ℕ × ℕ)) → (from ≡ id → to ≡ id) → Puts (IsToChild ((from, to) ∷ []) id parent) list list
-no_child_of id parent from to list none =
-    puts_nothing (IsToChild ((from, to) ∷ []) id parent) list
-    (λ a b all. let is = only_pair (from, to) id b all.2 in absurd (all.1 (is.1 ∙ none (sym is.0))))
-
 child_put : (front : List (ℕ × ℕ)) (pair : ℕ × ℕ) (id parent : ℕ) (old mid new : List (ℕ × ℕ)) → Puts (IsToChild front id parent) old mid
     → Puts (IsToChild (pair ∷ []) id parent) mid new → Puts (IsToChild (front ++ pair ∷ []) id parent) old new
 child_put front pair id parent old mid new first second =
@@ -119,15 +114,6 @@ child_more pairs i d id parent old mid new below first second =
 pub child_all : (pairs : List (ℕ × ℕ)) (i : ℕ) (id parent : ℕ) (old new : List (ℕ × ℕ)) → length pairs ≤ i
     → Puts (IsToChild (take i pairs) id parent) old new → Puts (IsToChild pairs id parent) old new
 child_all pairs i id parent old new past puts = subst (λ (front : List (ℕ × ℕ)). Puts (IsToChild front id parent) old new) (take_all i pairs past) puts
-
--- What is left of one pair.
-pub left_of_parent : (pairs : List (ℕ × ℕ)) (id parent child : ℕ) (list : List (ℕ × ℕ)) → parent ≡ id → Puts (IsLeft ((parent, child) ∷ []) pairs id) list list
-left_of_parent pairs id parent child list is =
-    puts_nothing (IsLeft ((parent, child) ∷ []) pairs id) list
-    (λ a b left. elim left.2 [
-      | inl here ↦ absurd (left.0 ((only_pair (parent, child) a b here).0 ∙ is))
-      | inr across ↦ absurd (left.0 ((only_pair (parent, child) a id across.0).0 ∙ is))
-    ])
 
 pub left_of_child : (pairs : List (ℕ × ℕ)) (id parent child : ℕ) (old new : List (ℕ × ℕ)) → (parent ≡ id → ⊥)
     → child ≡ id → Puts (IsToChild pairs id parent) old new → Puts (IsLeft ((parent, child) ∷ []) pairs id) old new

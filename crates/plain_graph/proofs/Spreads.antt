@@ -1,5 +1,5 @@
 -- The list of names found so far, while names that pairs lead to are added.
-use Rattle.std.proofs.Common.{◌≡◌, ℕ, ◌+◌, ◌-◌, ◌<◌, ◌≤◌, List, [], ◌∷◌, ◌++◌, length, refl, subst, inl, inr, arith}
+use Rattle.std.proofs.Common.{◌≡◌, ℕ, ◌+◌, ◌-◌, ◌<◌, ◌≤◌, List, [], ◌∷◌, ◌++◌, length, subst, inl, inr, arith}
 use Rattle.std.specs.Prelude.{Contains, nat_eq}
 use Rattle.std.specs.List.{IsDistinct}
 use Rattle.std.specs.List.Sorted.{IsPermutation, IsNonDecreasing}
@@ -16,7 +16,7 @@ use Rattle.graphs.specs.Graphs.{Lists}
 use Rattle.graphs.proofs.ListLemmas.{length-within}
 use Rattle.plain_graph.specs.declared.walk.Way.{Way}
 use Rattle.plain_graph.specs.Walks.{Leads, ReachesFrom, IsClosed, LeadsOut, EndsAreAmong, HoldsAll}
-use Rattle.plain_graph.proofs.Ways.{reaches_itself, reached_next, stays}
+use Rattle.plain_graph.proofs.Ways.{reached_next, stays}
 
 -- The list begins with the starts, holds names that walks lead to, each once, and has room for all of them.
 pub record Spreading (way : Way) (pairs : List (ℕ × ℕ)) (first now : Room) : Type 0 where
@@ -25,16 +25,6 @@ pub record Spreading (way : Way) (pairs : List (ℕ × ℕ)) (first now : Room) 
   pub starts : (id : ℕ) → Contains first.ids id → Contains now.ids id
   pub reached : (id : ℕ) → Contains now.ids id → ReachesFrom way pairs first.ids id
   pub same_room : length now.ids + now.room ≡ length first.ids + first.room
-
-pub spreading_starts : (way : Way) (pairs : List (ℕ × ℕ)) (first : Room)
-    → HoldsAll pairs first.ids (length first.ids + first.room) → IsDistinct nat_eq first.ids → Spreading way pairs first first
-spreading_starts way pairs first held distinct = record {
-  held = held;
-  distinct = distinct;
-  starts = λ id here. here;
-  reached = λ id here. (id, here, reaches_itself way pairs id);
-  same_room = refl;
-}
 
 distinct_push : (ids : List ℕ) (id : ℕ) → IsDistinct nat_eq ids → (Contains ids id → ⊥) → IsDistinct nat_eq (ids ++ id ∷ [])
 distinct_push ids id distinct outside =

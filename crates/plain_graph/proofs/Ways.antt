@@ -1,5 +1,5 @@
 -- Walks one way or both: how they begin, go on and stay within a closed list.
-use Rattle.std.proofs.Common.{◌≡◌, ℕ, suc, zero, ◌+◌, ◌<◌, ◌≤◌, List, [], ◌∷◌, ◌++◌, length, get_or, take, sym, refl, subst, inl, inr, arith}
+use Rattle.std.proofs.Common.{◌≡◌, ℕ, suc, zero, ◌+◌, ◌<◌, ◌≤◌, List, [], ◌∷◌, ◌++◌, length, get_or, take, sym, refl, subst, inl, inr}
 use Rattle.std.proofs.lemmas.List.{take_more, take_all}
 use Rattle.std.proofs.lemmas.List.Elements.{Contains-push_cases}
 use Rattle.std.specs.Prelude.{Contains}
@@ -8,11 +8,6 @@ use Rattle.graphs.proofs.WalkLemmas.{walk_cons}
 use Rattle.plain_graph.specs.declared.walk.Way.{Way}
 use Rattle.plain_graph.specs.declared.walk.Way.TheVariants.{Up, Down, Either}
 use Rattle.plain_graph.specs.Walks.{Leads, Reaches, ReachesFrom, PairStays, IsClosed, LeadsOut}
-
-pub reaches_itself : (way : Way) (pairs : List (ℕ × ℕ)) (a : ℕ) → Reaches way pairs a a
-reaches_itself Up pairs a = (0, refl)
-reaches_itself Down pairs a = (0, refl)
-reaches_itself Either pairs a = (0, refl)
 
 pub reaches_on : (way : Way) (pairs : List (ℕ × ℕ)) (a b c : ℕ) → Reaches way pairs a b → Leads way pairs b c → Reaches way pairs a c
 reaches_on Up pairs a b c walk lead = elim lead [
@@ -52,10 +47,6 @@ stays Up pairs ids a b closed inside walk = stays_up Up pairs ids a b walk.0 (λ
 stays Down pairs ids a b closed inside walk = stays_down pairs ids a b walk.0 (λ p c pair. (closed p c pair).down refl) inside walk.1
 stays Either pairs ids a b closed inside trail = stays_either pairs ids a b trail.0 closed inside trail.1
 
-pub leads_among : (way : Way) (pairs others : List (ℕ × ℕ)) (a b : ℕ)
-    → ((p c : ℕ) → Contains pairs (p, c) → Contains others (p, c)) → Leads way pairs a b → Leads way others a b
-leads_among way pairs others a b within lead = elim lead [ inl up ↦ inl (up.0, within b a up.1) | inr down ↦ inr (down.0, within a b down.1) ]
-
 -- what a pair leads out to is reached
 pub reached_next : (way : Way) (pairs : List (ℕ × ℕ)) (starts ids : List ℕ) (id : ℕ)
     → ((q : ℕ) → Contains ids q → ReachesFrom way pairs starts q) → LeadsOut way pairs ids id → ReachesFrom way pairs starts id
@@ -63,17 +54,9 @@ reached_next way pairs starts ids id reached out =
     let walk : ReachesFrom way pairs starts out.from = reached out.from out.inside in
     (walk.0, walk.1, reaches_on way pairs walk.0 out.from id walk.2 out.lead)
 
-pub leads_out_among : (way : Way) (pairs others : List (ℕ × ℕ)) (ids : List ℕ) (id : ℕ)
-    → ((p c : ℕ) → Contains pairs (p, c) → Contains others (p, c)) → LeadsOut way pairs ids id → LeadsOut way others ids id
-leads_out_among way pairs others ids id within out =
-    record { from = out.from; inside = out.inside; lead = leads_among way pairs others out.from id within out.lead; outside = out.outside }
-
 same_pair : (way : Way) (ids : List ℕ) (pair : ℕ × ℕ) (parent child : ℕ)
     → ◌≡◌ {A = ℕ × ℕ} pair (parent, child) → PairStays way ids pair.0 pair.1 → PairStays way ids parent child
 same_pair way ids pair parent child same stay = subst (λ (pair : ℕ × ℕ). PairStays way ids pair.0 pair.1) same stay
-
-pub closed_none : (way : Way) (ids : List ℕ) → IsClosed way [] ids
-closed_none way ids parent child pair = absurd (omega (arith, pair.1))
 
 pub closed_push : (way : Way) (pairs : List (ℕ × ℕ)) (ids : List ℕ) (pair : ℕ × ℕ)
     → IsClosed way pairs ids → PairStays way ids pair.0 pair.1 → IsClosed way (pairs ++ pair ∷ []) ids

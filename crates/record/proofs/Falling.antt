@@ -31,7 +31,8 @@ use Rattle.record.specs.Kept.{unordered}
 use Rattle.record.specs.Leaving.{AreLike, IsOneComponent, bare, most_steps_of_links}
 use Rattle.record.specs.Records.{IsConnected}
 use Rattle.record.specs.Steps.{most_steps_fit, most_steps_fit_of, most_steps_within}
-use Rattle.record.proofs.Pieces.{IsOneOf, are_components, apart_lists, bounded, one_entry, pairs_back, pairs_map}
+use Rattle.cluster.proofs.Bounds.{IsOneOf, are_components}
+use Rattle.record.proofs.Pieces.{apart_lists, bounded, one_entry, pairs_back, pairs_map}
 
 abbrev pub names_in : Links → List ℕ
 names_in part = names_of part.txs

@@ -1,10 +1,7 @@
 -- One after another comes out of a list.
-use Rattle.std.proofs.Common.{◌≡◌, ℕ, ◌+◌, List, [], ◌∷◌, ◌++◌, length, refl, sym, ap, ap₂, ◌∙◌, append_assoc, subst, arith}
-use Rattle.std.specs.Prelude.{All, Contains}
+use Rattle.std.proofs.Common.{◌≡◌, ℕ, ◌+◌, List, [], ◌∷◌, ◌++◌, length, refl, sym, ap, ap₂, ◌∙◌, append_assoc, arith}
 use Rattle.std.proofs.lemmas.List.{append-nil, map_push}
 use Rattle.std.proofs.lemmas.List.Sums.{sum_by-append}
-use Rattle.std.proofs.lemmas.List.Elements.{All-contains, Contains-append_right}
-use Rattle.lists.proofs.Entries.{Contains-head}
 use Rattle.graphs.specs.Closures.{Closure}
 use Rattle.graph_model.specs.declared.names.Limits.{Limits}
 use Rattle.cluster.specs.Clusters.{Cluster}
@@ -29,13 +26,6 @@ pub none_left : {A : Type 0} (rest : List A) → length rest ≡ 0 → rest ≡ 
 none_left [] e = refl
 none_left (c ∷ rest) e = absurd cc
 
--- what holds of each holds of the next one
-pub next_holds : {A : Type 0} (P : A → Type 0) (done rest rest' all : List A) (c : A) → done ++ rest ≡ all → rest ≡ c ∷ rest' → All P all → P c
-next_holds {A} P done rest rest' all c split next each =
-    All-contains P all c each
-    (subst (λ (xs : List A). Contains xs c) split
-    (Contains-append_right done rest c (subst (λ (xs : List A). Contains xs c) (sym next) (Contains-head c rest'))))
-
 -- ---- links and their records
 
 pub like_more : (records : List Cluster) (parts : List Links) (record' : Cluster) (part : Links) → AreLike records parts → IsLike record' (unordered part)
@@ -56,10 +46,3 @@ module _ (limits : Limits) where
       sum_by-append cost parts (part ∷ []) in
       let one : most_steps_of_links limits (part ∷ []) ≡ 0 + cost part = refl in
       record { grew = omega (arith, so.grew, more.grew); few = omega (arith, so.few, more.few, split, one) }
-
-  pub cost_all : (done rest all : List Links) (before after : ℕ) → done ++ rest ≡ all → GrowsWithin (most_steps_of_links limits done) before after
-      → GrowsWithin (most_steps_of_links limits all) before after
-  cost_all done rest all before after split so =
-      let whole : most_steps_of_links limits all ≡ most_steps_of_links limits done + most_steps_of_links limits rest =
-      ap (most_steps_of_links limits) (sym split) ∙ sum_by-append cost done rest in
-      record { grew = so.grew; few = omega (arith, so.few, whole) }

@@ -3,9 +3,8 @@ use Rattle.std.proofs.Common.{◌≡◌, ℕ, ◌++◌, List, [], sym, ap, ◌�
 use Rattle.std.specs.Prelude.{Contains}
 use Rattle.graphs.specs.Closures.{Closure}
 use Rattle.cluster.specs.Clusters.{Cluster, AreApart}
-use Rattle.cluster.specs.Changes.{AreAcross, Joins}
+use Rattle.cluster.specs.Changes.{AreAcross}
 use Rattle.record.specs.Records.{IsConnected, IsLike}
-use Rattle.record.specs.Changes.{AreJoined}
 
 pub like_same : (c d : Cluster) → c ≡ d → IsLike c d
 like_same c d same = (ap (λ (x : Cluster). x.names) same, ap (λ (x : Cluster). x.graph) same)
@@ -53,12 +52,3 @@ pub like_across : (c c' d d' : Cluster) → IsLike c c' → IsLike d d' → (par
     → AreAcross c.names d.names parent child
 like_across c c' d d' first second parent child across =
     subst₂ (λ (xs ys : List ℕ). AreAcross xs ys parent child) (sym first.0) (sym second.0) across
-
-pub like_joined : (c c' d d' : Cluster) → IsLike c c' → IsLike d d' → (parent child : ℕ) (r : Cluster) → AreJoined c d parent child r
-    → AreJoined c' d' parent child r
-like_joined c c' d d' first second parent child r joined = record {
-  names = joined.names ∙ ap (λ (xs : List ℕ). xs ++ d.names) first.0 ∙ ap (λ (ys : List ℕ). c'.names ++ ys) second.0;
-  graph = subst₂ (λ (f g : Closure). Joins f g parent child r.graph) first.1 second.1 joined.graph;
-  connected = joined.connected;
-  none = joined.none;
-}

@@ -4,7 +4,7 @@ use Rattle.std.proofs.lemmas.List.Elements.{Contains-append_right, Contains-push
 use Rattle.lists.proofs.Entries.{Contains-head}
 use Rattle.graphs.specs.Graphs.{Walk, IsAncestor}
 use Rattle.graphs.specs.Closures.{is_ancestor}
-use Rattle.cluster.specs.Clusters.{Cluster, IsCluster}
+use Rattle.cluster.specs.Clusters.{Cluster}
 use Rattle.links.specs.Links.{Links, AreAmong, AreLinks}
 use Rattle.links.specs.Kept.{names_of}
 use Rattle.links.proofs.Closed.{ancestors_are}
@@ -43,9 +43,6 @@ pub above_in : (names : List ℕ) (pairs : List (ℕ × ℕ)) → AreAmong names
 above_in names pairs among a b (n, walk) here = walk_above names pairs among a b n walk here
 
 -- ---- a component with an order
-
-pub within_above : (most : ℕ) (c : Cluster) → IsCluster most c → (a b : ℕ) → is_ancestor c.graph a b ≡ true → Contains c.names a
-within_above most c cluster a b up = (cluster.members a).0 (cluster.order.among a b up).0
 
 -- ---- links, and what they stand for
 

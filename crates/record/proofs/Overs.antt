@@ -8,7 +8,7 @@ use Rattle.std.proofs.lemmas.Option.{none-some, same_Some, slice_get-get_or, sli
 use Rattle.arithmetic.proofs.Sums.{sum_by_along}
 use Rattle.lists.specs.Distinct.{AreDistinct}
 use Rattle.lists.proofs.Distinct.{distinct_within}
-use Rattle.lists.proofs.Entries.{first_of, rest_of, Contains-cases, Contains-splits, none_in_empty}
+use Rattle.lists.proofs.Entries.{Contains-splits}
 use Rattle.lists.proofs.Told.{told_number}
 use Rattle.graphs.specs.Graphs.{Trail, AreConnected}
 use Rattle.fee_rate.specs.declared.rates.FeeRate.{FeeRate}
@@ -17,6 +17,7 @@ use Rattle.graph_model.specs.declared.names.Refusal.{Refusal}
 use Rattle.graph_model.specs.declared.names.Refusal.TheVariants.{ClusterSize}
 use Rattle.graph_model.specs.Limits.{Bounds, AreOver, bounds_of}
 use Rattle.graph_model.specs.Refusals.{IsFirst, ToldOver}
+use Rattle.graph_model.proofs.FirstLemmas.{first_or_none}
 use Rattle.links.specs.Links.{Links, AreLinks, Has}
 use Rattle.links.specs.Laws.{FallsInto}
 use Rattle.links.specs.Parts.{AreComponentsOf, StandsBefore}
@@ -43,32 +44,7 @@ placed xs x (i, low, at) = (i, slice_get-get_or xs i x low ∙ ap Some at)
 -- the first entry of a list with a property that can be told
 first_told : (P : ℕ → Type 0) → ((x : ℕ) → P x ⊎ (P x → ⊥)) → (xs : List ℕ) (x : ℕ) → Contains xs x → P x
     → (id : ℕ) × IsFirst (λ before id. P id) xs id
-first_told P told [] x here holds = absurd (none_in_empty x here)
-first_told P told (y ∷ ys) x here holds = elim (told y) [
-  | inl at_once ↦ (y, record { before = []; after = ys; cut = refl; has = at_once; earlier = no_front })
-  | inr not_yet ↦ elim (Contains-cases y x ys here) [
-    | inl same ↦ absurd (not_yet (subst P (sym same) holds))
-    | inr later ↦ let found = first_told P told ys x later holds in (found.0, after_one y ys not_yet found.0 found.1)
-  ]
-]
-  where
-    no_front : (front rest : List ℕ) (other : ℕ) → [] ≡ front ++ other ∷ rest → P other → ⊥
-    no_front [] rest other e held = cc
-    no_front (z ∷ zs) rest other e held = cc
-
-    none_before : (y id : ℕ) (ys : List ℕ) → (P y → ⊥) → (first : IsFirst (λ before q. P q) ys id) → (front rest : List ℕ) (other : ℕ)
-        → y ∷ first.before ≡ front ++ other ∷ rest → P other → ⊥
-    none_before y id ys not_yet first [] rest other e held = not_yet (subst P (sym (first_of e)) held)
-    none_before y id ys not_yet first (z ∷ zs) rest other e held = first.earlier zs rest other (rest_of e) held
-
-    after_one : (y : ℕ) (ys : List ℕ) → (P y → ⊥) → (id : ℕ) → IsFirst (λ before q. P q) ys id → IsFirst (λ before q. P q) (y ∷ ys) id
-    after_one y ys not_yet id first = record {
-      before = y ∷ first.before;
-      after = first.after;
-      cut = ap (λ (zs : List ℕ). y ∷ zs) first.cut;
-      has = first.has;
-      earlier = none_before y id ys not_yet first;
-    }
+first_told P told xs x here holds = elim (first_or_none P xs (λ y _. told y)) [ inl found ↦ found | inr none ↦ absurd (none x here holds) ]
 
 -- an entry after another stands at its place
 place_after : (front rest : List ℕ) (x : ℕ) (d : ℕ) → get_or (front ++ x ∷ rest) (length front) d ≡ x

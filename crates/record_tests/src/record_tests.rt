@@ -59,7 +59,9 @@ fn with_child<L: Ledger>(
     assert!(rt; stands_in(older.names(), parent));
     assert!(rt; !stands_in(older.names(), id));
     let other = single(alloc, work, steps, id)?;
-    Ok(older.joined(alloc, &other, parent, id, &LIMITS, work, steps)?)
+    let joined = older.joined(alloc, &other, parent, id, &LIMITS, work, steps);
+    drop(other);
+    Ok(joined?)
 }
 
 // Whether one name of a record is an ancestor of another.

@@ -4,13 +4,11 @@ use Rattle.std.specs.Prelude.{Contains, take}
 use Rattle.std.specs.FinMap as finmap
 use Rattle.lists.specs.Distinct.{AreDistinct}
 use Rattle.lists.proofs.Entries.{Contains-head, Contains-later, Contains-cases, none_in_empty, map_along}
-use Rattle.fee_rate.specs.declared.rates.FeeRate.{FeeRate}
 use Rattle.graphs.specs.declared.names.Level.TheVariants.{Main}
 use Rattle.graphs.specs.Closures.{Closure, is_member, is_ancestor, rate_of}
 use Rattle.graphs.specs.Graphs.{Graph, IsAncestor, HasNoCycle}
 use Rattle.graphs.proofs.WalkLemmas.{walk_within}
 use Rattle.graph_model.specs.declared.limits.TheConstants.{MAX_BLOCKS}
-use Rattle.graph_model.specs.declared.names.Refusal.{Refusal}
 use Rattle.graph_model.specs.Changes.{IsMinedBlock, ids_of}
 use Rattle.graph_model.specs.Commands.{HasTypes, Mine}
 use Rattle.graph_model.specs.Refusals.{RefusalIs}
@@ -103,7 +101,3 @@ kept_same block other same is = record {
   parents = λ a b pair. subst (λ txs. Contains (ids_of txs) a) (sym same.txs) (is.parents a b ((same.pairs a b).0 pair));
   acyclic = λ a n walk. is.acyclic a n (walk_within block.pairs other.pairs (λ x y pair. (same.pairs x y).0 pair) a a (suc n) walk);
 }
-
--- the same block has as many names
-pub same_long : (block other : MinedBlock) → IsSameBlock block other → length block.txs ≡ length other.txs
-same_long block other same = ap length same.txs

@@ -1,9 +1,9 @@
 -- Links of all components of a graph, one behind the other, make its ancestors.
-use Rattle.std.proofs.Common.{◌≡◌, ◌≢◌, ◌↔◌, ℕ, suc, zero, true, List, [], ◌∷◌, ◌++◌, map, flat_map, Contains, append-nil, append_assoc, refl, sym, ap, ◌∙◌, subst, inl, inr}
+use Rattle.std.proofs.Common.{◌≡◌, ◌≢◌, ◌↔◌, ℕ, suc, zero, true, List, [], ◌∷◌, ◌++◌, map, flat_map, Contains, append-nil, append_assoc, sym, ap, ◌∙◌, subst, inl, inr}
 use Rattle.std.specs.Borrow.{Bor}
 use Rattle.std.proofs.lemmas.List.{map-append}
 use Rattle.std.proofs.lemmas.List.Elements.{Contains-push_cases}
-use Rattle.lists.proofs.Entries.{none_in_empty, map-Contains, Contains-map}
+use Rattle.lists.proofs.Entries.{map-Contains, Contains-map}
 use Rattle.lists.proofs.Flats.{flat_has, flat_of}
 use Rattle.graphs.specs.Certificates.{Txs}
 use Rattle.graphs.specs.Closing.{IsClosureOf}
@@ -27,9 +27,6 @@ pub record ArePut (done : List Cluster) (pairs : List (ℕ × ℕ)) : Type 0 whe
   pub each : (l : Links) → Contains told l → AreLinks l
   pub like : map bare done ≡ map unordered told
   pub pairs_are : pairs ≡ flat_map (λ (l : Links). l.pairs) told
-
-pub none_put : ArePut [] []
-none_put = record { told = []; each = λ l here. absurd (none_in_empty l here); like = refl; pairs_are = refl }
 
 flat_push : {A B : Type 0} (f : A → List B) (xs : List A) (x : A) → flat_map f (xs ++ x ∷ []) ≡ flat_map f xs ++ f x
 flat_push f [] x = append-nil (f x)

@@ -1,5 +1,5 @@
 -- Names that stand again, by their positions.
-use Rattle.std.proofs.Common.{◌≡◌, ◌≢◌, ◌⊎◌, ℕ, ◌+◌, ◌<◌, ◌≤◌, Bool, true, false, List, [], ◌∷◌, ◌++◌, length, length-append, get_or, add-one, slice_index, take, drop, drop-cons, Contains, inl, inr, refl, sym, ap, ◌∙◌, subst, true≢false, arith}
+use Rattle.std.proofs.Common.{◌≡◌, ◌≢◌, ◌⊎◌, ℕ, ◌+◌, ◌<◌, ◌≤◌, true, false, List, [], ◌∷◌, ◌++◌, length, length-append, get_or, add-one, slice_index, take, drop, drop-cons, Contains, inl, inr, refl, sym, ap, ◌∙◌, subst, true≢false, arith}
 use Rattle.std.proofs.lemmas.Bool.{cases_eq, cases_lt}
 use Rattle.std.proofs.lemmas.List.{get_or_default, get_or-take, get_or_append_left, length-take-le, take-append-drop}
 use Rattle.lists.specs.Distinct.{AreDistinct}
@@ -11,14 +11,6 @@ use Rattle.repeats.specs.Places.{NoneAgain, StandsWithin}
 pub within_more : (ids : List ℕ) (from at id : ℕ) → from ≤ at → (id ≡ slice_index ids at) ⊎ StandsWithin ids from at id → StandsWithin ids from (at + 1) id
 within_more ids from at id low (inl same) = (at, low, omega arith, sym same)
 within_more ids from at id low (inr (i, a, b, is)) = (i, a, omega arith, is)
-
-pub within_less : (ids : List ℕ) (from at id : ℕ) → StandsWithin ids from (at + 1) id → (id ≡ slice_index ids at) ⊎ StandsWithin ids from at id
-within_less ids from at id (i, a, b, is) =
-    elim (cases_eq i at) [ inl same ↦ inl (sym is ∙ ap (slice_index ids) same) | inr other ↦ inr (i, a, omega arith, is) ]
-
--- more positions
-pub within_wider : (ids : List ℕ) (from to low high id : ℕ) → low ≤ from → to ≤ high → StandsWithin ids from to id → StandsWithin ids low high id
-within_wider ids from to low high id a b (i, c, d, is) = (i, omega arith, omega arith, is)
 
 -- one name more that doesn't stand earlier
 pub none_more : (ids : List ℕ) (from to at : ℕ) → NoneAgain ids from to at → (StandsWithin ids from at (slice_index ids at) → ⊥) → NoneAgain ids from to (at + 1)
@@ -33,11 +25,6 @@ pub none_behind : (ids : List ℕ) (from to bound : ℕ) → NoneAgain ids from 
     → ((j : ℕ) → to ≤ j → j < bound → StandsWithin ids from to (slice_index ids j) → ⊥) → NoneAgain ids from to bound
 none_behind ids from to bound none new i j a b less below e =
     elim (cases_lt j to) [ inl early ↦ none i j a b less early e | inr late ↦ new j late below (i, a, b, e) ]
-
--- some positions, and those behind them
-pub none_joined : (ids : List ℕ) (from mid to bound less : ℕ) → less ≤ bound → NoneAgain ids from mid bound → NoneAgain ids mid to less → NoneAgain ids from to less
-none_joined ids from mid to bound less few first second i j a b c d e =
-    elim (cases_lt i mid) [ inl early ↦ first i j a early c (omega arith) e | inr late ↦ second i j late b c d e ]
 
 -- a list of which no name stands again
 pub none_at_all : (ids : List ℕ) (to : ℕ) → length ids ≤ to → NoneAgain ids 0 to (length ids) → AreDistinct ids

@@ -39,7 +39,8 @@ use Rattle.replay.specs.declared.top.Status.{Status}
 use Rattle.replay.specs.declared.top.Status.TheVariants as statuses
 use Rattle.replay.specs.Inputs.{ReadsTo}
 use Rattle.replay.specs.Statuses.{EndsWell}
-use Rattle.replay.specs.Checks.{IsVerified, Checks}
+use Rattle.replay.specs.Checks.{Checks}
+use Rattle.verification.specs.Verdicts.{IsVerified}
 use Rattle.replay.specs.CheckLaws.{SaysYes, AreAccepted, CheckAcceptsProofs, SetStrictly}
 use Rattle.replay.proofs.FeedLemmas.{text_cut}
 

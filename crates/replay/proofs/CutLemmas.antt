@@ -145,12 +145,6 @@ takes_none Past a t = (refl, refl, refl)
 pub reads_none : (old : Cutter) (a : Option (List ℕ)) → Reads old old a a []
 reads_none old a = record { takes = takes_none old.stage a old.taken; taken = omega arith }
 
--- what is given changes neither the stage nor the count
-pub reads_given : (old mid new : Cutter) (a b : Option (List ℕ)) (more : List ℕ)
-    → new.taken ≡ mid.taken → new.stage ≡ mid.stage → Reads old mid a b more → Reads old new a b more
-reads_given old mid new a b more taken stage reads =
-    record { takes = rw (taken, stage) reads.takes; taken = taken ∙ reads.taken }
-
 -- what was found is given
 pub whole_next : (old new : Cutter) (a b : Option (List ℕ)) (rest : List ℕ) (bytes : Bor (List ℕ)) → bytes.now ≡ new.line
     → (more : List ℕ) × Reads old new a b more × FindsNext new (rest ++ more) found.Whole → GivesNext old new a b rest (next.Line (Whole bytes))

@@ -1,7 +1,7 @@
 -- Replies that gather before a sink.
 use Rattle.std.proofs.Common.{◌≡◌, ℕ, ◌+◌, ◌≤◌, List, [], ◌++◌, length, take, drop, Option, None, Some, Result, Ok, Err, refl, sym, ap, subst, ◌∙◌, arith, append_assoc, append-nil, length-drop, take-append-drop}
 use Rattle.std.proofs.lemmas.List.{take_at, append_cancel_left}
-use Rattle.std.specs.Io.KnownBytes.{Appends, Keeps, append_known}
+use Rattle.std.specs.Io.KnownBytes.{Appends, append_known}
 use Rattle.std.proofs.KnownBytes.{Appends-trans, Appends-nil}
 use Rattle.outside.specs.Transfers.{AppendsFront, Writes}
 use Rattle.replay.specs.Gatherings.{Grows, Sends, HasSent, Gathers}
@@ -26,22 +26,6 @@ grows_on a b c one two = (one.0 ++ two.0, Appends-trans a b c one.0 two.0 one.1 
 
 pub grows_none : (a : Option (List ℕ)) → Grows a a
 grows_none a = ([], Appends-nil a)
-
--- some of what was held went out, and more is held behind the rest
-pub both_grow : (a b : Option (List ℕ)) (held left now more : List ℕ) → Sends a b held left
-    → now ≡ left ++ more → Appends (append_known a held) (append_known b now) more
-both_grow None b held left now more sends is = tt
-both_grow (Some x) None held left now more sends is = sends.2
-both_grow (Some x) (Some y) held left now more sends is =
-    ap (λ (bytes : List ℕ). y ++ bytes) is ∙ sym (append_assoc y left more)
-    ∙ ap (λ (bytes : List ℕ). bytes ++ more)
-    (ap (λ (bytes : List ℕ). bytes ++ left) sends.2 ∙ append_assoc x sends.0 left ∙ ap (λ (bytes : List ℕ). x ++ bytes) (sym sends.1))
-
-pub both_keep : (a b : Option (List ℕ)) (held left : List ℕ) → Sends a b held left → Keeps (append_known a held) (append_known b left)
-both_keep None b held left sends = tt
-both_keep (Some x) None held left sends = sends.2
-both_keep (Some x) (Some y) held left sends = ap (λ (bytes : List ℕ). bytes ++ left) sends.2
-    ∙ append_assoc x sends.0 left ∙ ap (λ (bytes : List ℕ). x ++ bytes) (sym sends.1)
 
 pub sends_none : (a : Option (List ℕ)) (held : List ℕ) → Sends a a held held
 sends_none a held = ([], refl, Appends-nil a)

@@ -1,6 +1,5 @@
 pub mod SessionLemmas
 pub mod YieldedLemmas
-pub mod CheckLemmas
 pub mod LoadLemmas
 pub mod LimitLemmas
 pub mod WindowLemmas

@@ -15,12 +15,10 @@ use Rattle.graph_model.specs.Runs.{Answer, answer_text}
 use Rattle.graph_model.specs.Steps.{Step, KeepsPicks}
 use Rattle.graph_model.specs.Validity.{ArePicks, IsStagingPick}
 use Rattle.tx_graph.specs.Kept as graphs
-use Rattle.replay.specs.declared.input.End.TheVariants.{Told}
 use Rattle.replay.specs.declared.session.TheConstants.{MOST_NAMES}
 use Rattle.replay.specs.declared.top.Status.{Status}
 use Rattle.replay.specs.declared.top.Status.TheVariants as statuses
 use Rattle.replay.specs.Answers.{IsReadOf}
-use Rattle.replay.specs.Inputs.{ReadsTo}
 use Rattle.replay.specs.Loads.{Loads, LoadsBytes, Tells, IsAnswer, IsRefused}
 
 -- ---- to read the proof of main leaves the state, where no staging is open
@@ -87,18 +85,3 @@ module _ {K : Type 0} (written : K → Option (List ℕ)) (old new : K) (bytes :
   told_refused status finding line refused finds writes (out, is, inr fault) =
       let answer : IsAnswer bytes finding out = record { finds = finds; writes = subst (LoadWrites MOST_NAMES default_limits finding) (sym is) writes } in
       subst (λ (s : Status). LoadsBytes s bytes written old new) (sym fault.0) (finding, out, answer, fault.1)
-
-  -- of what was read
-  pub read_loaded : (status : Status) (left_old left_new : Option (List ℕ)) → ReadsTo Told left_old left_new bytes → LoadsBytes status bytes written old new
-      → Loads status left_old left_new written old new
-  read_loaded statuses.Done left_old left_new read is = (bytes, read, is)
-  read_loaded statuses.No left_old left_new read is = (bytes, read, is)
-  read_loaded statuses.Usage left_old left_new read is = absurd is
-  read_loaded statuses.ReadFault left_old left_new read is = absurd is
-  read_loaded statuses.WriteFault left_old left_new read is = (bytes, read, is)
-  read_loaded statuses.NoMemory left_old left_new read is = is
-  read_loaded statuses.InputLimit left_old left_new read is = absurd is
-
-  -- where there was no memory nothing was written
-  pub unwritten : (status : Status) → LoadsBytes status bytes written old new → status ≡ statuses.NoMemory → new ≡ old
-  unwritten status is none = subst (λ (s : Status). LoadsBytes s bytes written old new) none is

@@ -1,10 +1,9 @@
 -- Replies that go out line by line.
-use Rattle.std.proofs.Common.{◌≡◌, ℕ, ◌+◌, ◌<◌, List, [], ◌∷◌, ◌++◌, length, map, take, get_or, Contains, Option, None, Ok, Err, Result, refl, sym, ap, subst, ◌∙◌, append_assoc, append-nil}
+use Rattle.std.proofs.Common.{◌≡◌, ℕ, ◌+◌, ◌<◌, List, [], ◌∷◌, ◌++◌, length, map, take, get_or, Contains, Option, Ok, Err, Result, refl, sym, ap, subst, ◌∙◌, append_assoc, append-nil}
 use Rattle.std.specs.Prelude.{flat_map}
 use Rattle.std.proofs.lemmas.List.{map-append, take_more}
 use Rattle.std.proofs.lemmas.List.Elements.{Contains-append_left, Contains-append_right}
 use Rattle.std.proofs.lemmas.List.Concat.{flat_map-append}
-use Rattle.std.specs.Iterator.{AlwaysYields, Yields}
 use Rattle.std.proofs.KnownBytes.{Appends-nil}
 use Rattle.outside.specs.Transfers.{Writes}
 use Rattle.fee_rate.specs.declared.rates.Sum.{Sum}
@@ -39,9 +38,6 @@ rest_on f all given now next x is step =
     is ∙ ap (λ (ys : List _). map f given ++ ys) step ∙ sym (append_assoc (map f given) (f x ∷ []) next) ∙ ap (λ (ys : List _). ys ++ next)
     (sym (map-append f given (x ∷ [])))
 
-pub rest_end : {B : Type 0} (all given now : List B) → all ≡ given ++ now → now ≡ [] → all ≡ given
-rest_end all given now is none = is ∙ ap (λ (ys : List _). given ++ ys) none ∙ append-nil given
-
 pub map_push : {A B C : Type 0} (g : B → C) (f : A → B) (given : List A) (x : A) → map g (map f (given ++ x ∷ [])) ≡ map g (map f given) ++ g (f x) ∷ []
 map_push g f given x = ap (map g) (map-append f given (x ∷ [])) ∙ map-append g (map f given) (f x ∷ [])
 
@@ -72,14 +68,3 @@ pub chunk_writes : {T E : Type 0} (a b : Option (List ℕ)) (p q : ℕ) (r : Res
 chunk_writes a b p q r part rate fee size writes =
     let same : rate ≡ (lent part).rate = λ i. record { fee = fee i; size = size i } in
     subst (λ (sum : Sum). Writes a b p q r (line_text (chunk_line (record { rate = sum; ids = part.ids.now; flows = [] })))) same writes
-
--- what an iterator gave until it gave no more is all that it gives
-pub all_given : {S A : Type 0} (steps : S → Option A → S → Type 0) (s t u : S) (xs list : List A) → AlwaysYields steps (λ x. x) s list
-    → Yields steps s xs t → steps t None u → list ≡ xs
-all_given steps s t u [] [] always yields ends = refl
-all_given steps s t u [] (y ∷ list) always yields ends = absurd (always.0 u (subst (λ k. steps k None u) (sym yields) ends))
-all_given steps s t u (x ∷ xs) [] always yields ends = absurd (always x yields.0 yields.1)
-all_given steps s t u (x ∷ xs) (y ∷ list) always yields ends =
-    let first = always.1 x yields.0 yields.1 in
-    let rest = all_given steps yields.0 t u xs list first.1 yields.2 ends in
-    λ i. sym first.0 i ∷ rest i

@@ -24,7 +24,8 @@ use Rattle.replay.specs.declared.session.TheConstants.{MOST_NAMES}
 use Rattle.replay.specs.declared.top.Status.{Status}
 use Rattle.replay.specs.declared.top.Status.TheVariants as statuses
 use Rattle.replay.specs.Statuses.{EndsWell}
-use Rattle.replay.specs.Checks.{IsVerified, Checks}
+use Rattle.replay.specs.Checks.{Checks}
+use Rattle.verification.specs.Verdicts.{IsVerified}
 
 -- the line that `check` writes of a certificate
 abbrev pub yes_text : List ℕ

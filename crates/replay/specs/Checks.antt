@@ -3,21 +3,14 @@ use Rattle.std.specs.Prelude.{◌≡◌, ◌≢◌, ℕ, List}
 use Rattle.std.specs.Io.KnownBytes.{Appends}
 use Rattle.std.specs.declared.option.Option.{Option}
 use Rattle.outside.specs.Transfers.{AppendsFront}
-use Rattle.graph_model.specs.Lines.{Cut, with_last}
 use Rattle.graphs.specs.Certificates.{Certified}
-use Rattle.graph_model.specs.Texts.{Verification, Verifies, Found, verification_text}
+use Rattle.graph_model.specs.Texts.{Verification, Found, verification_text}
+use Rattle.verification.specs.Verdicts.{IsVerified}
 use Rattle.replay.specs.declared.input.End.{End}
 use Rattle.replay.specs.declared.input.End.TheVariants.{Told, Fault, Limit}
 use Rattle.replay.specs.declared.top.Status.{Status}
 use Rattle.replay.specs.declared.top.Status.TheVariants as statuses
 use Rattle.replay.specs.Inputs.{ReadsTo}
-
--- this is what is said of the lines of an input
-pub record IsVerified (input : List ℕ) (said : Verification) : Type 0 where
-  pub lines : List (List ℕ)
-  pub rest : List ℕ
-  pub cut : Cut input lines rest
-  pub verifies : Verifies (with_last lines rest) said
 
 -- The source was read to its end, and what is said of the text was written.
 pub record IsChecked (said : Verification) (left_old left_new written_old written_new : Option (List ℕ)) : Type 0 where

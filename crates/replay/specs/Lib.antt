@@ -6,7 +6,6 @@ pub mod Outputs
 pub mod Statuses
 pub mod Checks
 pub mod Loads
-pub mod Verdicts
 pub mod Windows
 pub mod Cutters
 pub mod Cuts

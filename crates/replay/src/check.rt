@@ -1,33 +1,19 @@
 //! The command `check`: whether a text is a certificate.
-ghost use Rattle.std.specs.Prelude.{◌≡◌, ◌≢◌, ℕ, ◌^◌, ◌<◌, ◌≤◌, ◌⊎◌, IfOk, length};
+ghost use Rattle.std.specs.Prelude.{◌≡◌, ◌≢◌, ℕ, ◌⊎◌};
 ghost use Rattle.std.specs.Io.KnownBytes.{Appends};
 ghost use Rattle.graph_model.specs.Words.{line_text};
-ghost use Rattle.graph_model.specs.Lines.{max_input};
-ghost use Rattle.graph_model.specs.Texts.{Verification, Found, HasTextTypes, verification_text};
-ghost use Rattle.wire.specs.Drafts.{text_of, amount_of};
-ghost use Rattle.graphs.specs.Certificates.{Certified};
+ghost use Rattle.graph_model.specs.Texts.{verification_text};
 ghost use Rattle.outside.specs.Transfers.{AppendsFront};
-ghost use Rattle.replay.specs.Verdicts.{verification_of, IsSaidOf};
-ghost use Rattle.replay.specs.Checks.{IsVerified, Checks};
+ghost use Rattle.verification.specs.Verdicts.{verification_of};
+ghost use Rattle.replay.specs.Checks.{Checks};
 ghost use Rattle.replay.specs.Statuses.{StatusFaults};
 
 use crate::input::{End, read_input};
 use crate::top::Status;
-use certificate::{CheckFault, check};
 use outside::{Failed, NoMemory, Sink, Source};
 use std::alloc::Global;
-use wire::{CertText, TextFault, read_certificate, write_word};
-
-/// What is said of a text.
-#[derive(Clone, Copy)]
-pub(crate) enum Said {
-    Yes,
-    NoSyntax,
-    NoGraph,
-    NoOrder,
-    NoFalling,
-    NoFlow,
-}
+use verification::{Said, verify};
+use wire::write_word;
 
 /// Reads a text to its end, checks it, and writes what is said of it. Where reading doesn't come to the end,
 /// nothing is written.
@@ -48,34 +34,6 @@ pub(crate) fn check_text<S: Source, K: Sink>(alloc: Global, source: &mut S, sink
     match verify(alloc, &input.bytes) {
         Ok(said) => tell(said, sink),
         Err(NoMemory) => Status::NoMemory,
-    }
-}
-
-/// What is to be said of the text that these bytes are.
-fn verify(alloc: Global, bytes: &[u8]) -> Result<Said, NoMemory>
-    requires { length bytes.now ≤ max_input }
-    ensures { IfOk result (λ said. IsVerified bytes.now (verification_of said)) }
-{
-    match read_certificate(alloc, bytes) {
-        Ok(text) => judge(alloc, &text),
-        Err(TextFault::Syntax) => Ok(Said::NoSyntax),
-        Err(TextFault::Memory) => Err(NoMemory),
-    }
-}
-
-/// What is to be said of a text.
-fn judge(alloc: Global, text: &CertText) -> Result<Said, NoMemory>
-    requires types { HasTextTypes (text_of text.now) }
-    requires amounts { amount_of (text_of text.now) < 2 ^ 127 }
-    ensures { IfOk result (IsSaidOf (text_of text.now)) }
-{
-    match check(alloc, &text.graph, text.parts.as_slice()) {
-        Ok(()) => Ok(Said::Yes),
-        Err(CheckFault::Graph) => Ok(Said::NoGraph),
-        Err(CheckFault::Order) => Ok(Said::NoOrder),
-        Err(CheckFault::Falling) => Ok(Said::NoFalling),
-        Err(CheckFault::Flow) => Ok(Said::NoFlow),
-        Err(CheckFault::Memory) => Err(NoMemory),
     }
 }
 

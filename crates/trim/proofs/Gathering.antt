@@ -4,7 +4,7 @@ use Rattle.std.specs.Borrow.{Bor}
 use Rattle.std.specs.Prelude.{Contains}
 use Rattle.std.proofs.lemmas.List.{map-append}
 use Rattle.std.proofs.lemmas.List.Elements.{Contains-push_cases}
-use Rattle.lists.proofs.Entries.{map-Contains, none_in_empty}
+use Rattle.lists.proofs.Entries.{map-Contains}
 use Rattle.graphs.specs.Certificates.{rate_in}
 use Rattle.graphs.specs.Closures.{Closure}
 use Rattle.graph_model.specs.declared.names.Limits.{Limits}
@@ -51,14 +51,6 @@ whole_one given l whole one x here = elim (Contains-push_cases given l x here) [
 flat_push : {A B : Type 0} (f : A → List B) (xs : List A) (x : A) → flat_map f (xs ++ x ∷ []) ≡ flat_map f xs ++ f x
 flat_push f [] x = append-nil (f x)
 flat_push f (y ∷ ys) x = ap (λ zs. f y ++ zs) (flat_push f ys x) ∙ sym (append_assoc (f y) (flat_map f ys) (f x))
-
-pub trimmed_none : (bounds : Bounds) → AreTrimmed bounds [] []
-trimmed_none bounds = record {
-  parts = [];
-  links = refl;
-  trimmed = λ part here. absurd (none_in_empty part here);
-  together = refl;
-}
 
 pub trimmed_push : (bounds : Bounds) (list : List Links) (l : Links) (ids some new : List ℕ) → AreTrimmed bounds list ids
     → IsTrimmed bounds (rate_in l.txs) (graph l) some → new ≡ ids ++ some → AreTrimmed bounds (list ++ l ∷ []) new

@@ -15,9 +15,9 @@ use Rattle.fee_rate.specs.Limits.{IsSize}
 use Rattle.graphs.specs.Certificates.{Txs}
 use Rattle.links.specs.Links.{AreLinks, AreAmong}
 use Rattle.links.specs.Kept.{names_of}
-use Rattle.links.specs.Ways.{step_at}
-use Rattle.links.specs.Places.{ArePlaces, AreSteps}
-use Rattle.links.proofs.Placing.{name_at as named}
+use Rattle.places.specs.Chains.{pair_at}
+use Rattle.places.specs.Places.{ArePlaces, AreSteps}
+use Rattle.places.proofs.Placing.{name_at as named}
 use Rattle.trimming.specs.declared.net.Net.{Net}
 use Rattle.trimming.specs.Nets.{list_at, tx_at, name_at, IsNetOf}
 use Rattle.trimming.specs.Orders.{goes_before}
@@ -78,11 +78,11 @@ module _ (txs : Txs) (find : ℕ → Option ℕ) (pairs steps : List (ℕ × ℕ
   step_pair a b (k, low, at) =
       let long = are.sized in
       let inside : k < length pairs = omega (arith, low, long) in
-      let is : ◌≡◌ {A = ℕ × ℕ} (step_at steps k) (a, b) = get_or_default steps k (0, 0) (a, b) low ∙ at in
+      let is : ◌≡◌ {A = ℕ × ℕ} (pair_at steps k) (a, b) = get_or_default steps k (0, 0) (a, b) low ∙ at in
       let ends = are.ends k inside in
-      let one = at_place (step_at pairs k).0 a (ends.0 ∙ ap (λ (s : ℕ × ℕ). Some s.0) is) in
-      let two = at_place (step_at pairs k).1 b (ends.1 ∙ ap (λ (s : ℕ × ℕ). Some s.1) is) in
-      let pair : ◌≡◌ {A = ℕ × ℕ} (step_at pairs k) (name_at txs a, name_at txs b) = λ i. (sym one.1 i, sym two.1 i) in
+      let one = at_place (pair_at pairs k).0 a (ends.0 ∙ ap (λ (s : ℕ × ℕ). Some s.0) is) in
+      let two = at_place (pair_at pairs k).1 b (ends.1 ∙ ap (λ (s : ℕ × ℕ). Some s.1) is) in
+      let pair : ◌≡◌ {A = ℕ × ℕ} (pair_at pairs k) (name_at txs a, name_at txs b) = λ i. (sym one.1 i, sym two.1 i) in
       (one.0, two.0, subst (Contains pairs) pair (Contains-get_or pairs k (0, 0) inside))
 
   pub pair_step : (x y : ℕ) → Contains {X = ℕ × ℕ} pairs (x, y)
@@ -90,11 +90,11 @@ module _ (txs : Txs) (find : ℕ → Option ℕ) (pairs steps : List (ℕ × ℕ
   pair_step x y (k, low, at) =
       let long = are.sized in
       let inside : k < length steps = omega (arith, low, long) in
-      let is : ◌≡◌ {A = ℕ × ℕ} (step_at pairs k) (x, y) = get_or_default pairs k (0, 0) (x, y) low ∙ at in
+      let is : ◌≡◌ {A = ℕ × ℕ} (pair_at pairs k) (x, y) = get_or_default pairs k (0, 0) (x, y) low ∙ at in
       let ends = are.ends k low in
-      let one = at_place (step_at pairs k).0 (step_at steps k).0 ends.0 in
-      let two = at_place (step_at pairs k).1 (step_at steps k).1 ends.1 in
-      ((step_at steps k).0, (step_at steps k).1, Contains-get_or steps k (0, 0) inside, one.1 ∙ ap (λ (p : ℕ × ℕ). p.0) is, two.1 ∙ ap (λ (p : ℕ × ℕ). p.1) is)
+      let one = at_place (pair_at pairs k).0 (pair_at steps k).0 ends.0 in
+      let two = at_place (pair_at pairs k).1 (pair_at steps k).1 ends.1 in
+      ((pair_at steps k).0, (pair_at steps k).1, Contains-get_or steps k (0, 0) inside, one.1 ∙ ap (λ (p : ℕ × ℕ). p.0) is, two.1 ∙ ap (λ (p : ℕ × ℕ). p.1) is)
 
 -- ---- the net
 

@@ -7,7 +7,6 @@ use Rattle.std.proofs.lemmas.List.Elements.{Contains-get_or, Contains-append_lef
 use Rattle.std.proofs.lemmas.List.Sorted.{Contains-permutation, IsPermutation-sym}
 use Rattle.lists.specs.Distinct.{AreDistinct}
 use Rattle.lists.proofs.Distinct.{distinct_map, distinct_within}
-use Rattle.lists.proofs.Told.{told_number}
 use Rattle.lists.proofs.Entries.{Contains-head, Contains-later, Contains-cases, Contains-map, map-Contains, map_cut, none_in_empty, first_of, not_empty}
 use Rattle.fee_rate.specs.declared.rates.Sum.{Sum}
 use Rattle.graphs.specs.Graphs.{Graph, Trail, AreConnected, Lists}
@@ -18,8 +17,8 @@ use Rattle.links.specs.Links.{AreLinks}
 use Rattle.links.specs.Walkers.{mark_at}
 use Rattle.graph_model.specs.Limits.{Bounds, AreOver}
 use Rattle.graph_model.specs.Trims.{kept_of, IsCandidate, GoesFirst, PairsAmong, StaysWithin, AreMarked, IsTrimmed}
-use Rattle.graph_model.proofs.LevelLemmas.{IsTold, both_told, connected_told, some_list}
-use Rattle.graph_model.proofs.TrimLemmas.{Marks, looked_at, entry_kept, kept_entry, entry_looked, looked_entry, along_trail, rising_once}
+use Rattle.graph_model.proofs.LevelLemmas.{connected_told, some_list}
+use Rattle.graph_model.proofs.TrimLemmas.{Marks, looked_at, entry_kept, kept_entry, entry_looked, looked_entry, along_trail, rising_once, some_among}
 use Rattle.trimming.specs.declared.net.Net.{Net}
 use Rattle.trimming.specs.Nets.{tx_at, name_at, size_at, IsParent, IsNetOf}
 use Rattle.trimming.specs.Counts.{IsUnkept}
@@ -31,47 +30,6 @@ use Rattle.trimming.proofs.Tying.{tied_step}
 use Rattle.trimming.proofs.Turning.{kept_looked, looked_low}
 
 -- ---- lists that there are
-
-some_entries : {A : Type 0} (P : A → Type 0) → ((x : A) → IsTold (P x)) → (xs : List A) → (some : List A) × ((x : A) → Contains some x ↔ (Contains xs x × P x))
-some_entries P told [] = ([], λ x. (λ here. absurd (none_in_empty x here), λ is. is.0))
-some_entries {A = A} P told (y ∷ xs) =
-    let rest : (some : List A) × ((x : A) → Contains some x ↔ (Contains xs x × P x)) = some_entries P told xs in
-    elim (told y) [
-      | inl is ↦ (
-        y ∷ rest.0,
-        λ x. (
-          λ here. elim (Contains-cases y x rest.0 here) [
-            | inl same ↦ subst (λ z. Contains (y ∷ xs) z × P z) same (Contains-head y xs, is)
-            | inr later ↦ let found = (rest.1 x).0 later in (Contains-later y x xs found.0, found.1)
-          ],
-          λ both. elim (Contains-cases y x xs both.0) [
-            | inl same ↦ subst (Contains (y ∷ rest.0)) same (Contains-head y rest.0)
-            | inr later ↦ Contains-later y x rest.0 ((rest.1 x).1 (later, both.1))
-          ],
-        ),
-      )
-      | inr isnt ↦ (
-        rest.0,
-        λ x. (
-          λ here. let found = (rest.1 x).0 here in (Contains-later y x xs found.0, found.1),
-          λ both. elim (Contains-cases y x xs both.0) [
-            | inl same ↦ absurd (isnt (subst P (sym same) both.1))
-            | inr later ↦ (rest.1 x).1 (later, both.1)
-          ],
-        ),
-      )
-    ]
-
-some_among : (pairs : List (ℕ × ℕ)) (ids : List ℕ) → (some : List (ℕ × ℕ)) × PairsAmong pairs ids some
-some_among pairs ids =
-    let found = some_entries (λ (pair : ℕ × ℕ). Contains ids pair.0 × Contains ids pair.1)
-    (λ pair. both_told _ _ (told_number ids pair.0) (told_number ids pair.1)) pairs in (
-      found.0,
-      λ a b. (
-        λ here. let is = (found.1 (a, b)).0 here in (is.0, is.1.0, is.1.1),
-        λ is. (found.1 (a, b)).1 (is.0, (is.1, is.2)),
-      ),
-    )
 
 above_ends : (pairs : List (ℕ × ℕ)) → (bound : ℕ) × ((x y : ℕ) → Contains pairs (x, y) → (x < bound) × (y < bound))
 above_ends [] = (0, λ x y here. absurd (none_in_empty (x, y) here))

@@ -1,5 +1,5 @@
 -- One turn more.
-use Rattle.std.proofs.Common.{◌≡◌, ◌≢◌, ◌⊎◌, ◌↔◌, ℕ, ◌<◌, ◌≤◌, Bool, true, false, List, [], ◌∷◌, ◌++◌, length, length-append, inl, inr, refl, sym, ap, ◌∙◌, subst, arith, true≢false, append_assoc, append-nil}
+use Rattle.std.proofs.Common.{◌≡◌, ◌≢◌, ◌⊎◌, ◌↔◌, ℕ, ◌<◌, ◌≤◌, Bool, true, false, List, [], ◌∷◌, ◌++◌, length, inl, inr, refl, sym, ap, ◌∙◌, subst, arith, true≢false, append_assoc, append-nil}
 use Rattle.std.specs.Prelude.{Contains}
 use Rattle.std.proofs.lemmas.Bool.{cases_lt}
 use Rattle.std.proofs.lemmas.List.{map-append, length-map}
@@ -8,7 +8,7 @@ use Rattle.lists.proofs.Distinct.{distinct_push}
 use Rattle.links.proofs.Marks.{few_below}
 use Rattle.std.proofs.lemmas.List.Elements.{Contains-append_left, Contains-push, Contains-push_cases}
 use Rattle.lists.proofs.Told.{told_number}
-use Rattle.lists.proofs.Entries.{Contains-head, Contains-later, Contains-cases, first_of, rest_of}
+use Rattle.lists.proofs.Entries.{Contains-head, Contains-later, Contains-cases, push_cases}
 use Rattle.graph_model.specs.Limits.{Bounds, AreOver}
 use Rattle.graph_model.specs.Trims.{kept_of}
 use Rattle.graph_model.proofs.TrimLemmas.{Marks, looked_at, entry_kept, kept_entry, entry_looked, looked_entry, kept_front}
@@ -18,25 +18,12 @@ use Rattle.trimming.specs.declared.net.Net.{Net}
 use Rattle.trimming.specs.declared.teams.Teams.{Teams}
 use Rattle.trimming.specs.Nets.{list_at, size_at, IsNet, IsParent}
 use Rattle.trimming.specs.Ties.{AreTied, Or}
-use Rattle.trimming.specs.Counts.{ArePassed, HasAllKept}
+use Rattle.trimming.specs.Counts.{HasAllKept}
 use Rattle.trimming.specs.Teams.{IsKept, AreGathered}
 use Rattle.trimming.specs.Turns.{IsNext, IsJudged, AreTurns}
 use Rattle.trimming.proofs.Tying.{tied_map}
 
 -- ---- marks with one more
-
--- where a list with one more entry is cut at an entry: at the new one, or within the list
-push_cases : {A : Type 0} (xs : List A) (x y : A) (before after : List A) → xs ++ x ∷ [] ≡ before ++ y ∷ after
-    → ((before ≡ xs) × (x ≡ y)) ⊎ ((rest : List A) × (xs ≡ before ++ y ∷ rest))
-push_cases [] x y [] after e = inl (refl, first_of e)
-push_cases [] x y (b ∷ before) after e = absurd (omega (arith, ap length (rest_of e), length-append before (y ∷ after)))
-push_cases (a ∷ xs) x y [] after e = inr (xs, ap (λ z. z ∷ xs) (first_of e))
-push_cases (a ∷ xs) x y (b ∷ before) after e =
-    let head : a ≡ b = first_of e in
-    elim (push_cases xs x y before after (rest_of e)) [
-      | inl found ↦ inl (λ i. sym head i ∷ found.0 i, found.1)
-      | inr found ↦ inr (found.0, λ i. head i ∷ found.1 i)
-    ]
 
 pub looked_more : (marked : Marks) (id : ℕ) (mark : Bool) (x : ℕ) → Contains (looked_at (marked ++ (id, mark) ∷ [])) x → Contains (looked_at marked) x ⊎ (x ≡ id)
 looked_more marked id mark x here =
@@ -211,12 +198,6 @@ module _ (bounds : Bounds) (net : Net) where
         }) (not_place true x is))
       ]),
     )
-
--- more places are kept
-pub passed_kept : (net : Net) (old new : List Bool) (passed : List ℕ)
-    → ((x : ℕ) → mark_at old x ≡ true → mark_at new x ≡ true)
-    → ArePassed net old passed → ArePassed net new passed
-passed_kept net old new passed more p = record { sized = p.sized; few = p.few; are = λ q k low early. more _ (p.are q k low early) }
 
 -- ---- no place is looked at twice
 

@@ -1,21 +1,14 @@
-ghost use Rattle.std.specs.Prelude.{◌≡◌, ◌↔◌, ◌<◌, ℕ, length, map, nat_eq, Contains, Some, IfOk};
-ghost use Rattle.std.specs.HashMap as hash;
-ghost use Rattle.lists.specs.Distinct.{AreDistinct};
+ghost use Rattle.std.specs.Prelude.{◌≡◌, ◌↔◌, ◌<◌, ℕ, length, Contains, IfOk};
 ghost use Rattle.links.specs.Links.{AreLinks};
-ghost use Rattle.links.specs.Kept.{names_of};
-ghost use Rattle.links.specs.Places.{ArePlaces, AreSteps, Finds, FindsEnds};
-ghost use Rattle.links.specs.Ways.{AreWithin};
+ghost use Rattle.places.specs.Chains.{AreWithin};
 ghost use Rattle.trimming.specs.Nets.{list_at, IsNetOf};
 
 use crate::buckets::{empty_lists, put};
 use crate::order::sorted;
 use graphs::TxId;
 use outside::NoMemory;
+use places::{places_of, steps_of};
 use std::alloc::Global;
-use std::collections::HashMap;
-
-/// Where each name stands among the transactions.
-type Places = HashMap<TxId, usize>;
 
 /// Transactions in the order in which candidates are looked at, with the places of the parents and of the children of each.
 #[derive(Drop)]
@@ -44,47 +37,6 @@ pub(crate) fn net_of(
         parents,
         children,
     })
-}
-
-/// The place of each name among the transactions.
-fn places_of(alloc: Global, txs: &[(TxId, i64, u64)]) -> Result<Places, NoMemory>
-    requires { AreDistinct (names_of txs.now) }
-    ensures { IfOk result (λ places. ArePlaces (names_of txs.now) (hash.get nat_eq places)) }
-{
-    let mut places = HashMap::with_capacity(alloc, txs.len())?;
-    for (at, tx) in txs.iter().enumerate() {
-        places.insert(tx.0, at)?;
-    }
-    Ok(places)
-}
-
-/// The place of a name. Takes no memory.
-fn place_of(places: &Places, id: TxId) -> usize
-    requires { Finds (hash.get nat_eq places.now) id }
-    ensures { hash.get nat_eq places.now id ≡ Some result }
-{
-    match places.get(&id).copied() {
-        Some(place) => place,
-        None => unreachable!(),
-    }
-}
-
-/// The pairs as steps between the places of their ends.
-fn steps_of(
-    alloc: Global,
-    places: &Places,
-    pairs: &[(TxId, TxId)],
-) -> Result<Vec<(usize, usize)>, NoMemory>
-    requires { FindsEnds (hash.get nat_eq places.now) pairs.now }
-    ensures { IfOk result (λ steps. AreSteps (hash.get nat_eq places.now) pairs.now steps.items) }
-{
-    let mut steps = Vec::with_capacity(alloc, pairs.len())?;
-    for pair in pairs {
-        let parent = place_of(places, pair.0);
-        let child = place_of(places, pair.1);
-        steps.push((parent, child))?;
-    }
-    Ok(steps)
 }
 
 /// For each place those from which a step leads to it.

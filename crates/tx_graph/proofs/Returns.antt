@@ -7,7 +7,7 @@ use Rattle.std.proofs.lemmas.List.Elements.{Contains-append_left, Contains-appen
 use Rattle.arithmetic.proofs.Sums.{sum_by_along}
 use Rattle.lists.specs.Distinct.{AreDistinct}
 use Rattle.lists.proofs.Distinct.{distinct_joined}
-use Rattle.lists.proofs.Entries.{Contains-cases, Contains-head, Contains-later, Contains-map, first_of, map-Contains, none_in_empty, rest_of}
+use Rattle.lists.proofs.Entries.{Contains-cases, Contains-head, Contains-later, Contains-map, map-Contains, none_in_empty}
 use Rattle.lists.proofs.Told.{cases_pair, told_in, told_number}
 use Rattle.graphs.specs.Certificates.{Txs}
 use Rattle.graphs.specs.Graphs.{Graph, AreConnected, IsGraph}
@@ -18,11 +18,11 @@ use Rattle.graph_model.specs.Commands.{Unmine}
 use Rattle.graph_model.specs.Limits.{Bounds, AreOver}
 use Rattle.graph_model.specs.States.{PlainState, Table, size_in, size_of}
 use Rattle.graph_model.specs.Changes.{PutsNames, Restores, begun, ids_of}
-use Rattle.graph_model.specs.Refusals.{BringsOver, FirstOf, IsFirst, IsInOver, NoRefusal, ToldOver}
+use Rattle.graph_model.specs.Refusals.{BringsOver, FirstOf, IsInOver, NoRefusal, ToldOver}
 use Rattle.graph_model.specs.Steps.{MayGiveWay}
 use Rattle.graph_model.specs.Validity.{IsValid}
 use Rattle.graph_model.proofs.BackLemmas.{graph_put}
-use Rattle.graph_model.proofs.FirstLemmas.{first_in}
+use Rattle.graph_model.proofs.FirstLemmas.{first_in, first_or_none}
 use Rattle.graph_model.proofs.LevelLemmas.{connected_told, connects, one_pair, some_list}
 use Rattle.graph_model.proofs.RestoreLemmas.{CanCome, joined_name, over_told}
 use Rattle.graph_model.proofs.ValidLemmas.{get-put_other, get-put_same}
@@ -73,39 +73,6 @@ select decide P told (x ∷ xs) =
         ),
       )
     ]
-
--- the first entry with a property that can be told of each, or none has it
-first_or_none : (P : ℕ → Type 0) → (xs : List ℕ) → ((x : ℕ) → Contains xs x → P x ⊎ (P x → ⊥))
-    → ((id : ℕ) × IsFirst (λ before id. P id) xs id) ⊎ ((x : ℕ) → Contains xs x → P x → ⊥)
-first_or_none P [] told = inr (λ x none. absurd (none_in_empty x none))
-first_or_none P (y ∷ ys) told = elim (told y (Contains-head y ys)) [
-  | inl at_once ↦ inl (y, record { before = []; after = ys; cut = refl; has = at_once; earlier = no_front })
-  | inr not_yet ↦ elim (first_or_none P ys (λ x here. told x (Contains-later y x ys here))) [
-    | inl found ↦ inl (
-      found.0,
-      record {
-        before = y ∷ found.1.before;
-        after = found.1.after;
-        cut = ap (λ (zs : List ℕ). y ∷ zs) found.1.cut;
-        has = found.1.has;
-        earlier = none_before y found.0 ys not_yet found.1;
-      },
-    )
-    | inr none ↦ inr (λ x here holds. elim (Contains-cases y x ys here) [
-      | inl same ↦ not_yet (subst P (sym same) holds)
-      | inr later ↦ none x later holds
-    ])
-  ]
-]
-  where
-    no_front : (front rest : List ℕ) (other : ℕ) → [] ≡ front ++ other ∷ rest → P other → ⊥
-    no_front [] rest other e held = cc
-    no_front (z ∷ zs) rest other e held = cc
-
-    none_before : (y id : ℕ) (ys : List ℕ) → (P y → ⊥) → (first : IsFirst (λ before q. P q) ys id) → (front rest : List ℕ) (other : ℕ)
-        → y ∷ first.before ≡ front ++ other ∷ rest → P other → ⊥
-    none_before y id ys not_yet first [] rest other e held = not_yet (subst P (sym (first_of e)) held)
-    none_before y id ys not_yet first (z ∷ zs) rest other e held = first.earlier zs rest other (rest_of e) held
 
 -- ---- tables
 

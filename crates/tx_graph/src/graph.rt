@@ -598,8 +598,7 @@ impl<const W: usize> TxGraph<W> {
         requires within { IsWithin self.now.levels level }
         ensures parts { result ≡ (level_at self.now.levels level).parts }
         ensures step { MakesStep self.now self.now (commands.Order level) (Parts result) }
-        ensures best { (state : State) → StandsFor self.now state → IsBestOrder state level result }
-        ensures minimal { (state : State) → StandsFor self.now state → AreMinimalIn state level result }
+        ensures best { (state : State) → StandsFor self.now state → IsBestOrder state level result × AreMinimalIn state level result }
         ensures names { (id : ℕ) → Contains (order_of result) id
             ↔ (is_member (level_at self.now.levels level).graph id ≡ true) }
         ensures proof { (text : Text) → IsTextOf (level_at self.now.levels level) text

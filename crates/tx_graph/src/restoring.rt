@@ -1,5 +1,5 @@
 //! Transactions that come back into main.
-ghost use Rattle.std.specs.Prelude.{◌≡◌, ◌≢◌, ◌↔◌, ℕ, ◌+◌, ◌^◌, ◌<◌, None, Option, Contains, length, is_ok, if◌then◌else◌, IfErr, IfOk, IsTrue, MatchResult};
+ghost use Rattle.std.specs.Prelude.{◌≡◌, ◌≢◌, ◌↔◌, ℕ, ◌+◌, ◌^◌, ◌<◌, None, Option, Contains, length, if◌then◌else◌, IfErr, IfOk, IsTrue, MatchResult};
 ghost use Rattle.graph_model.specs.declared.names.Refusal.{Refusal as refusals};
 ghost use Rattle.graph_model.specs.declared.names.Refusal.TheVariants.{Memory};
 ghost use Rattle.graph_model.specs.Changes.{ids_of};
@@ -44,13 +44,13 @@ impl<const W: usize> TxGraph<W> {
         steps: &mut Steps<L>,
     ) -> Result<(), Refusal>
         requires { MayRestore self.old names.now pairs.now }
-        ensures restores { IfOk result (λ _. Leads self.old self.new (RestoresSet names.now pairs.now)) }
+        ensures restores { IfOk result (λ _. Leads self.old self.new (RestoresSet names.now pairs.now)
+            × (self.new.levels.issued ≡ self.old.levels.issued + length names.now)) }
         ensures row { (state : State) → StandsFor self.old state → MatchResult result
             (λ _. RestoreRefusalIs state.plain names.now pairs.now None)
             (λ why. (found : Option refusals) × RestoreRefusalIs state.plain names.now pairs.now found × IsAnsweredBy found why) }
         ensures refused { IfErr result (λ why. (self.new ≡ self.old) × (why ≢ Memory → steps.new ≡ steps.old)) }
         ensures stays { AllStay self.old.levels self.new.levels }
-        ensures additions { self.new.levels.issued ≡ self.old.levels.issued + (if is_ok result then length names.now else 0) }
         ensures steps { RestoresWithin self.old.levels.limits self.old.levels.main.graph names.now pairs.now steps.old steps.new }
     {
         if self.levels.is_staged() {

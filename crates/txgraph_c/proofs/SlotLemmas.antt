@@ -1,5 +1,5 @@
 -- What is said of a slot.
-use Rattle.std.proofs.Common.{◌≡◌, ℕ, Option, Some, None, sym, subst}
+use Rattle.std.proofs.Common.{◌≡◌, ℕ, Option, Some, sym, subst}
 use Rattle.desk.specs.declared.desk.Desk.{Desk}
 use Rattle.txgraph_c.specs.Slots.{OfSlot}
 
@@ -8,8 +8,3 @@ pub of_slot : (old new : Option Desk) (code : ℕ) (Rest : Type 0) (Does : Desk 
     → OfSlot old new code Rest Does
 of_slot old new code Rest Does o n was is does =
     subst (λ (s : Option Desk). OfSlot s new code Rest Does) (sym was) (subst (λ (s : Option Desk). OfSlot (Some o) s code Rest Does) (sym is) does)
-
--- a slot that has none
-pub no_slot : (old new : Option Desk) (code : ℕ) (Rest : Type 0) (Does : Desk → Desk → Type 0) → old ≡ None → new ≡ None → code ≡ 1 → Rest
-    → OfSlot old new code Rest Does
-no_slot old new code Rest Does was is told rest = subst (λ (s : Option Desk). OfSlot s new code Rest Does) (sym was) (told, is, rest)

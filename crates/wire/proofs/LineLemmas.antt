@@ -39,10 +39,6 @@ pub record IsRead (all left : List (List ℕ)) (rows : List Row) : Type 0 where
   pub spelled : told before ≡ map row_line rows
   pub types : All HasRowTypes rows
 
-pub none_read : (all : List (List ℕ)) (rows : List Row) → rows ≡ [] → IsRead all all rows
-none_read all rows none =
-    subst (IsRead all all) (sym none) (record { before = []; whole = refl; short = All-nil IsShort; spelled = refl; types = All-nil HasRowTypes })
-
 pub one_more : (all left : List (List ℕ)) (line : List ℕ) (old : List Row) (draft : Draft)
     → IsRead all (line ∷ left) old → TakesLine old line (Ok draft) → IsRead all left (written draft)
 one_more all left line old draft read took =

@@ -1,5 +1,5 @@
 use Rattle.std.proofs.Common.{arith, sym, subst}
-use Rattle.certificate.specs.Groups.{AreWithin}
+use Rattle.places.specs.Chains.{AreWithin}
 use Rattle.certificate.proofs.Searching.{search_all}
 use Rattle.certificate.proofs.cycles.finds_no_cycle.Goals as goal
 

@@ -1,5 +1,5 @@
 use Rattle.std.proofs.Common.{◌≡◌, ◌++◌, map, take}
-use Rattle.certificate.specs.Groups.{turned}
+use Rattle.places.specs.Chains.{turned}
 use Rattle.certificate.proofs.groups.both_ways.Given as goal
 
 abbrev pub invariant-loop-pair : goal.invariant-loop-pair

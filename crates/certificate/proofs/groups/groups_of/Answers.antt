@@ -1,5 +1,6 @@
 use Rattle.std.proofs.Common.{◌≡◌, arith, replicate, subst, sym, ◌∙◌}
-use Rattle.certificate.specs.Groups.{AreGroups, AreWithin, GoBothWays, IsGrouping}
+use Rattle.places.specs.Chains.{AreWithin}
+use Rattle.certificate.specs.Groups.{AreGroups, GoBothWays, IsGrouping}
 use Rattle.certificate.proofs.Grouping.{both_groups, both_within, both_ways_go, grouping_none, whole_groups, IsWhole}
 use Rattle.certificate.proofs.groups.groups_of.Goals as goal
 

@@ -1,6 +1,6 @@
 use Rattle.std.proofs.Common.{◌≡◌, ◌-◌, arith, get_or, length, subst, sym, ◌∙◌}
 use Rattle.std.proofs.lemmas.List.{get_or_read}
-use Rattle.certificate.specs.Chains.{IsLast, pair_at}
+use Rattle.places.specs.Chains.{IsLast, pair_at}
 use Rattle.certificate.specs.Groups.{AreOfGroup, GoesOn}
 use Rattle.certificate.proofs.Grouping.{around_first, near_of, around_next, around_all}
 use Rattle.certificate.proofs.groups.look_around.Goals as goal

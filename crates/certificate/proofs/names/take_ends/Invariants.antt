@@ -1,7 +1,8 @@
 use Rattle.std.proofs.Common.{◌≡◌, ◌≤◌, List, ℕ, take, nat_eq, length}
 use Rattle.std.specs.HashMap as hash
 use Rattle.std.specs.Prelude.{vec_capacity}
-use Rattle.certificate.specs.Places.{ArePlaces, ArePairs}
+use Rattle.places.specs.Places.{ArePlaces}
+use Rattle.certificate.specs.Places.{ArePairs}
 use Rattle.certificate.proofs.names.take_ends.Given as goal
 
 abbrev pub invariant-loop-edge : goal.invariant-loop-edge

@@ -1,7 +1,8 @@
 use Rattle.std.proofs.Common.{◌<◌, sym, ◌∙◌, subst, ℕ, ℤ, arith, map}
 use Rattle.std.proofs.lemmas.List.{length-map, take_all}
 use Rattle.lists.specs.Distinct.{AreDistinct}
-use Rattle.certificate.proofs.PlaceLemmas.{places_next, places_again, places_distinct, name_at}
+use Rattle.places.proofs.Placing.{name_at}
+use Rattle.certificate.proofs.PlaceLemmas.{places_next, places_again, places_distinct}
 use Rattle.certificate.proofs.names.take_places.Goals as goal
 
 pub loop-at-preserved : goal.loop-at-preserved

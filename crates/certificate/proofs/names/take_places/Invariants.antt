@@ -1,6 +1,6 @@
 use Rattle.std.proofs.Common.{◌+◌, ◌≤◌, take, map, nat_eq, length}
 use Rattle.std.specs.HashMap as hash
-use Rattle.certificate.specs.Places.{ArePlaces}
+use Rattle.places.specs.Places.{ArePlaces}
 use Rattle.certificate.proofs.names.take_places.Given as goal
 
 abbrev pub invariant-loop-at : goal.invariant-loop-at

@@ -1,5 +1,5 @@
 use Rattle.std.proofs.Common.{ℕ, ◌<◌, slice_index}
-use Rattle.certificate.specs.Chains.{pair_at}
+use Rattle.places.specs.Chains.{pair_at}
 use Rattle.certificate.proofs.order.is_rising.Given as goal
 
 abbrev pub invariant-loop-pair : goal.invariant-loop-pair

@@ -1,7 +1,7 @@
 use Rattle.std.proofs.Common.{ℕ, ℤ, map, sym, ap, subst, ◌∙◌}
 use Rattle.std.specs.Iterator.{AlwaysYields}
 use Rattle.desk.specs.Copies.{corner_of}
-use Rattle.desk.proofs.Lists.{all_given}
+use Rattle.lists.proofs.Iterators.{all_given}
 use Rattle.desk.proofs.corners.list_corners.Goals as goal
 
 pub returns : goal.returns

@@ -3,7 +3,7 @@ use Rattle.std.specs.Int.{w64}
 use Rattle.std.proofs.lemmas.Int.{to_z-of_z}
 use Rattle.std.proofs.lemmas.List.Elements.{Contains-get_or}
 use Rattle.dump.proofs.Listed.{listed_next}
-use Rattle.dump.proofs.Rooms.{covers_fits}
+use Rattle.component.proofs.Rooms.{covers_fits}
 use Rattle.dump.proofs.listing.add_part.Goals as goal
 
 pub rate-rate-requires : goal.rate-rate-requires

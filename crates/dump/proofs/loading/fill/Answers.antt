@@ -29,8 +29,8 @@ returns-in-Ok g c =
     let new = c.restore.new.self in
     is_made (64 * g.row.W) old.levels.limits (text_of c.args.lists.now) c.requires.types c.requires.text c.requires.small old new c.requires.start
     c.requires.none
-    (subst₂ (λ (ts : Txs) (es : _). Leads old new (RestoresSet ts es)) c.as_slice.ensures.value c.as_slice-2.ensures.value c.in-Ok.ensures.restores)
-    (c.in-Ok.ensures.additions ∙ ap (λ (ts : Txs). old.levels.issued + length ts) c.as_slice.ensures.value)
+    (subst₂ (λ (ts : Txs) (es : _). Leads old new (RestoresSet ts es)) c.as_slice.ensures.value c.as_slice-2.ensures.value c.in-Ok.ensures.restores.0)
+    (c.in-Ok.ensures.restores.1 ∙ ap (λ (ts : Txs). old.levels.issued + length ts) c.as_slice.ensures.value)
 
 pub returns-in-Err-Count : goal.returns-in-Err-Count
 returns-in-Err-Count g c =

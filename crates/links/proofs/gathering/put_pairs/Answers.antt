@@ -1,6 +1,6 @@
 use Rattle.std.proofs.Common.{◌≡◌, ◌-◌, ◌<◌, ℕ, get_or, sym, subst, arith}
 use Rattle.std.proofs.lemmas.List.{get_or_read}
-use Rattle.links.specs.Ways.{step_at, IsLast}
+use Rattle.places.specs.Chains.{pair_at, IsLast}
 use Rattle.links.proofs.Chosen.{put_next, put_all}
 use Rattle.links.proofs.gathering.put_pairs.Goals as goal
 
@@ -17,7 +17,7 @@ loop-left-preserved c =
     let back : get_or before (left - 1) 0 ≡ next =
     sym (get_or_read before (left - 1) next (omega arith) c.index-left-in-loop-left.ensures 0) in
     put_next steps c.args.pairs.now c.args.list.now.items c.loop-left.list.items c.push.new.self.items c.args.place left next c.requires.sized put some
-    (subst (λ (b : ℕ). IsLast steps (step_at steps (left - 1)).1 (left - 1) b) back (c.requires.chains.chains.links (left - 1) (omega arith)))
+    (subst (λ (b : ℕ). IsLast steps (pair_at steps (left - 1)).1 (left - 1) b) back (c.requires.chains.chains.links (left - 1) (omega arith)))
     c.in_ok-push.ensures.items
 
 pub returns : goal.returns

@@ -1,5 +1,5 @@
 use Rattle.std.proofs.Common.{◌≡◌, ℕ, List, ◌++◌, map, ap, sym, ◌∙◌, subst, arith}
-use Rattle.links.specs.Ways.{AreWithin, turned}
+use Rattle.places.specs.Chains.{AreWithin, turned}
 use Rattle.links.specs.Gathering.{both_ways}
 use Rattle.links.proofs.Trails.{both_within}
 use Rattle.links.proofs.gathering.search_of.Goals as goal

@@ -2,7 +2,7 @@ use Rattle.std.proofs.Common.{rules, ◌≡◌, ◌<◌, ℕ, pos, List, [], ◌
 use Rattle.std.proofs.lemmas.List.{map-append, take_more}
 use Rattle.std.proofs.lemmas.List.Elements.{Contains-get_or}
 use Rattle.links.specs.Kept.{names_of}
-use Rattle.links.proofs.Placing.{name_at}
+use Rattle.places.proofs.Placing.{name_at}
 use Rattle.links.proofs.listing.list_names.Goals as goal
 
 pub bounds-txs-place : goal.bounds-txs-place

@@ -1,8 +1,9 @@
 use Rattle.std.proofs.Common.{ℕ, take}
 use Rattle.std.specs.Prelude.{Contains, ◌↔◌}
 use Rattle.std.specs.HashSet as bag
-use Rattle.links.specs.Pairs.{same_pair, ListsSet}
+use Rattle.links.specs.Pairs.{ListsSet}
 use Rattle.links.proofs.pairs.each_once.Given as goal
+use Rattle.lists.specs.Pairs.{same_pair}
 
 abbrev pub invariant-loop-pair : goal.invariant-loop-pair
 invariant-loop-pair l = record {

@@ -1,7 +1,8 @@
 use Rattle.std.proofs.Common.{List, ℕ, sym, ◌∙◌, subst}
 use Rattle.std.specs.HashSet as bag
 use Rattle.lists.proofs.Cases.{false_from_not, true_from_not}
-use Rattle.links.specs.Pairs.{ListsSet, same_pair}
+use Rattle.lists.specs.Pairs.{same_pair}
+use Rattle.links.specs.Pairs.{ListsSet}
 use Rattle.links.proofs.Pairing.{set_more, set_again}
 use Rattle.links.proofs.pairs.put.Goals as goal
 

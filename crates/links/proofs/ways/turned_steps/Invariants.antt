@@ -1,5 +1,5 @@
 use Rattle.std.proofs.Common.{◌≡◌, map, take}
-use Rattle.links.specs.Ways.{turned}
+use Rattle.places.specs.Chains.{turned}
 use Rattle.links.proofs.ways.turned_steps.Given as goal
 
 abbrev pub invariant-loop-step : goal.invariant-loop-step

@@ -2,7 +2,6 @@
 use Rattle.std.proofs.Common.{rules, ◌≡◌, ◌∷◌, [], List, ℕ, length, Contains, inl, lit<, sym, ap, ◌∙◌, subst, arith}
 use Rattle.lists.proofs.Entries.{Contains-head, Contains-one}
 use Rattle.record.specs.Changes.{MayJoin}
-use Rattle.record_tests.specs.declared.store_tests.TheConstants.{ONE_NAME}
 use Rattle.record_tests.proofs.store_tests.joined.Goals as goal
 
 alone_in : (x : ℕ) (names : List ℕ) → names ≡ x ∷ [] → Contains names x
@@ -20,7 +19,7 @@ joined-requires g c =
     let long : length c.args.old.now.names ≡ 1 = ap length first in
     let wide : length c.args.one.now.names ≡ 1 = ap length second in
     let other : parent ≡ child → ⊥ = search rules in
-    let joins : MayJoin 64 ONE_NAME c.args.old.now c.args.one.now parent child = record {
+    let joins : MayJoin 64 c.args.room.now.limits c.args.old.now c.args.one.now parent child = record {
       few = omega arith;
       one_fits = c.requires.old_fits;
       other_fits = c.requires.one_fits;

@@ -5,7 +5,7 @@ use mir.Syntax.{w128}
 use Rattle.std.specs.Iterator.{AlwaysYields}
 use Rattle.replay.specs.Generations.{last_sum}
 use Rattle.replay.proofs.CornerLemmas.{last_push, corners_few, fewer_given}
-use Rattle.replay.proofs.WritingLemmas.{all_given}
+use Rattle.lists.proofs.Iterators.{all_given}
 use Rattle.replay.proofs.totals.last_corner.Goals as goal
 
 pub overflow_add-corners : goal.overflow_add-corners

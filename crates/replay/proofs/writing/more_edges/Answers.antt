@@ -6,7 +6,7 @@ use Rattle.graphs.specs.Closures.{IsCover}
 use Rattle.cluster.specs.Covers.{ListsInOrder}
 use Rattle.graph_model.specs.Texts.{edge_line}
 use Rattle.replay.specs.Writings.{ListsOwn, edges_lines}
-use Rattle.replay.proofs.Rooms.{covers_fits}
+use Rattle.component.proofs.Rooms.{covers_fits}
 use Rattle.replay.proofs.TextLemmas.{each_append, each_one}
 use Rattle.replay.proofs.WritingLemmas.{lines_on}
 use Rattle.replay.proofs.writing.more_edges.Goals as goal

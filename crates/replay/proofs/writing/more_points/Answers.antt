@@ -5,7 +5,8 @@ use Rattle.std.proofs.lemmas.List.{map-append}
 use Rattle.std.specs.Iterator.{AlwaysYields}
 use Rattle.graph_model.specs.Replies.{point_line}
 use Rattle.replay.specs.Writings.{GoesOnLines}
-use Rattle.replay.proofs.WritingLemmas.{lines_on, all_given}
+use Rattle.replay.proofs.WritingLemmas.{lines_on}
+use Rattle.lists.proofs.Iterators.{all_given}
 use Rattle.replay.proofs.writing.more_points.Goals as goal
 
 pub loop-size-preserved : goal.loop-size-preserved

@@ -5,9 +5,8 @@ use Rattle.std.proofs.lemmas.List.{length-map}
 use Rattle.graphs.specs.Certificates.{Txs}
 use Rattle.lists.specs.Distinct.{AreDistinct}
 use Rattle.links.specs.Kept.{names_of}
-use Rattle.links.specs.Places.{ArePlaces}
-use Rattle.links.specs.Ways.{AreWithin}
-use Rattle.links.proofs.Placing.{ends_found, steps_within}
+use Rattle.places.specs.Places.{ArePlaces}
+use Rattle.places.specs.Chains.{AreWithin}
 use Rattle.trimming.specs.Nets.{list_at}
 use Rattle.trimming.proofs.Netting.{names_moved, among_moved, net_made}
 use Rattle.trimming.proofs.net.net_of.Goals as goal
@@ -18,10 +17,11 @@ places_of-requires c =
     (names_moved c.args.txs.now c.in_ok-order.order.items c.in_ok-order.ensures.same c.requires.graph_is.names)
 
 pub steps_of-requires : goal.steps_of-requires
-steps_of-requires c =
-    ends_found (names_of c.in_ok-order.order.items) (hash.get nat_eq c.in_ok-places.places) c.args.pairs.now
-    (subst (λ (l : Txs). ArePlaces (names_of l) (hash.get nat_eq c.in_ok-places.places)) c.as_slice.ensures.value c.in_ok-places.ensures)
-    (among_moved c.args.txs.now c.in_ok-order.order.items c.args.pairs.now c.in_ok-order.ensures.same c.requires.graph_is.ends)
+steps_of-requires c = (
+  names_of c.in_ok-order.order.items,
+  subst (λ (l : Txs). ArePlaces (names_of l) (hash.get nat_eq c.in_ok-places.places)) c.as_slice.ensures.value c.in_ok-places.ensures,
+  among_moved c.args.txs.now c.in_ok-order.order.items c.args.pairs.now c.in_ok-order.ensures.same c.requires.graph_is.ends,
+)
 
 pub parents_of-requires : goal.parents_of-requires
 parents_of-requires c =
@@ -29,8 +29,7 @@ parents_of-requires c =
     length-map c.as_slice.result.now _ ∙ (let l = c.as_slice.ensures.len in let m = c.len.ensures in omega (arith, l, m)) in
     subst (λ (n : ℕ). AreWithin n c.as_slice-2.result.now) long
     (subst (AreWithin (length (names_of c.as_slice.result.now))) (sym c.as_slice-2.ensures.value)
-    (steps_within (names_of c.as_slice.result.now) (hash.get nat_eq c.in_ok-places.places) c.args.pairs.now c.in_ok-steps.steps.items c.in_ok-places.ensures
-    c.in_ok-steps.ensures))
+    (c.in_ok-steps.ensures.within (names_of c.as_slice.result.now) c.in_ok-places.ensures))
 
 pub children_of-requires : goal.children_of-requires
 children_of-requires c =
@@ -38,8 +37,7 @@ children_of-requires c =
     length-map c.as_slice.result.now _ ∙ (let l = c.as_slice.ensures.len in let m = c.len-2.ensures in omega (arith, l, m)) in
     subst (λ (n : ℕ). AreWithin n c.as_slice-3.result.now) long
     (subst (AreWithin (length (names_of c.as_slice.result.now))) (sym c.as_slice-3.ensures.value)
-    (steps_within (names_of c.as_slice.result.now) (hash.get nat_eq c.in_ok-places.places) c.args.pairs.now c.in_ok-steps.steps.items c.in_ok-places.ensures
-    c.in_ok-steps.ensures))
+    (c.in_ok-steps.ensures.within (names_of c.as_slice.result.now) c.in_ok-places.ensures))
 
 pub returns : goal.returns
 returns c =
@@ -51,6 +49,6 @@ returns c =
     let ups = up.sized in
     let downs = down.sized in
     net_made c.args.txs.now c.args.pairs.now c.in_ok-steps.steps.items (hash.get nat_eq c.in_ok-places.places) _ c.requires
-    c.in_ok-order.ensures.same c.in_ok-order.ensures.sorted places c.in_ok-steps.ensures (omega (arith, ups, one)) (omega (arith, downs, two))
+    c.in_ok-order.ensures.same c.in_ok-order.ensures.sorted places c.in_ok-steps.ensures.steps (omega (arith, ups, one)) (omega (arith, downs, two))
     (λ a b. subst (λ (l : List (ℕ × ℕ)). Contains (list_at c.in_ok-parents.parents.items b) a ↔ Contains {X = ℕ × ℕ} l (a, b)) c.as_slice-2.ensures.value (up.exact a b))
     (λ a b. subst (λ (l : List (ℕ × ℕ)). Contains (list_at c.in_ok-children.children.items a) b ↔ Contains {X = ℕ × ℕ} l (a, b)) c.as_slice-3.ensures.value (down.exact a b))

@@ -3,7 +3,7 @@ use Rattle.graph_model.specs.Answers.{order_of}
 use Rattle.levels.specs.Levels.{OneLevel}
 use Rattle.levels.specs.Orders.{ListsCovers}
 use Rattle.levels.proofs.Finds.{level_is, graph_is, within_at}
-use Rattle.levels.proofs.Rooms.{covers_fits}
+use Rattle.component.proofs.Rooms.{covers_fits}
 use Rattle.graphs.specs.Closures.{Closure, is_member}
 use Rattle.levels.proofs.levels.Levels.covers.Goals as goal
 

@@ -3,7 +3,8 @@ use Rattle.std.proofs.Common.{◌≤◌, arith}
 use Rattle.levels.proofs.Places.{lists_covers}
 use Rattle.levels.proofs.Under.{held, seen_there}
 use Rattle.levels.proofs.Oversizing.{ordered_there}
-use Rattle.levels.proofs.Rooms.{cluster_fits, covers_fits}
+use Rattle.component.proofs.Rooms.{covers_fits}
+use Rattle.levels.proofs.Rooms.{cluster_fits}
 use Rattle.levels.proofs.shelves.Shelves.covers.Goals as goal
 
 pub ordered_at-requires : goal.ordered_at-requires

@@ -7,7 +7,7 @@ use Rattle.graphs.specs.Unions.{IsKin}
 use Rattle.links.specs.Kept.{coming, names_of}
 use Rattle.links.specs.Links.{Links, Has}
 use Rattle.links.proofs.Marks.{few_below}
-use Rattle.links.proofs.Placing.{finds_name}
+use Rattle.places.proofs.Placing.{finds_name}
 use Rattle.links.proofs.Walking.{found_kin, names_once}
 use Rattle.links.proofs.links.Links.kin.Goals as goal
 

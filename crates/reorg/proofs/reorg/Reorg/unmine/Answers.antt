@@ -1,4 +1,5 @@
-use Rattle.std.proofs.Common.{lit<, ◌≡◌, ◌+◌, ◌-◌, ◌^◌, ◌≤◌, ◌<◌, ℕ, List, [], ◌∷◌, length, is_some, sym, ap, ◌∙◌, subst, subst₂, true≢false, Option, None, arith}
+use Rattle.std.proofs.Common.{lit<, ◌≡◌, ◌+◌, ◌-◌, ◌^◌, ◌≤◌, ◌<◌, ℕ, ℤ, List, [], ◌∷◌, length, is_some, sym, ap, ◌∙◌, subst, subst₂, true≢false, Option, None, arith}
+use Rattle.std.proofs.lemmas.List.{length-map}
 use Rattle.graphs.specs.Certificates.{Txs}
 use Rattle.graph_model.specs.declared.names.Refusal.{Refusal}
 use Rattle.graph_model.specs.Changes.{ids_of}
@@ -50,7 +51,7 @@ returns-in-Ok-clause-step g c =
     subst₂ (λ (txs : Txs) (pairs : List (ℕ × ℕ)). (state : State) → graphs.StandsFor old state → RestoreRefusalIs state.plain txs pairs None)
     c.txs.ensures c.pairs.ensures c.in-Ok.ensures.row in
     let leads : graphs.Leads old new (RestoresSet block.txs block.pairs) =
-    subst₂ (λ (txs : Txs) (pairs : List (ℕ × ℕ)). graphs.Leads old new (RestoresSet txs pairs)) c.txs.ensures c.pairs.ensures c.in-Ok.ensures.restores in
+    subst₂ (λ (txs : Txs) (pairs : List (ℕ × ℕ)). graphs.Leads old new (RestoresSet txs pairs)) c.txs.ensures c.pairs.ensures c.in-Ok.ensures.restores.0 in
     subst (λ (ids : List ℕ). MakesStep (record { graph = old; blocks = c.args.self.now }) (record { graph = new; blocks = c.take_latest.new.blocks.items }) Unmine
     (Unmined ids))
     (told_are items block c.take_latest.result is c.take_latest.ensures.told)
@@ -65,6 +66,21 @@ returns-in-Ok-clause-sizes g c =
     let is : Begins items block = begins items block (omega (arith, long, low)) c.in-Some.ensures.lookup in
     λ most were. subst (λ (bs : List MinedBlock). HaveAtMost bs most) (left_are items c.take_latest.new.blocks.items block is c.take_latest.ensures.left)
     (sizes_earlier block is.earlier most (subst (λ (bs : List MinedBlock). HaveAtMost bs most) (sym c.self.view_is ∙ is.at) were))
+
+pub returns-in-Ok-clause-additions : goal.returns-in-Ok-clause-additions
+returns-in-Ok-clause-additions g c =
+    let items = c.self.inside.blocks.items in let long = c.self.inside.blocks.ok.0 in let block = c.in-Some.block.now in
+    let low = c.front.ensures.variant.0 (ap is_some c.in-Some.is) in
+    let is : Begins items block = begins items block (omega (arith, long, low)) c.in-Some.ensures.lookup in
+    let names : length c.txs.result.now ≡ length (latest_ids c.args.self.now) =
+    ap (λ (txs : Txs). length txs) c.txs.ensures ∙ sym (length-map block.txs (λ (tx : ℕ × ℤ × ℕ). tx.0))
+    ∙ ap (λ (bs : List MinedBlock). length (latest_ids bs)) (sym is.at ∙ c.self.view_is) in
+    c.in-Ok.ensures.restores.1 ∙ ap (λ (n : ℕ). c.args.graph.now.levels.issued + n) names
+
+pub returns-in-Err-clause-additions : goal.returns-in-Err-clause-additions
+returns-in-Err-clause-additions g c =
+    let same : c.restore.new.self.levels.issued ≡ c.args.graph.now.levels.issued = ap (λ (k : graphs.Kept). k.levels.issued) c.in-Err.ensures.refused.0 in
+    omega (arith, same)
 
 pub returns-in-Err-clause-step : goal.returns-in-Err-clause-step
 returns-in-Err-clause-step g c =

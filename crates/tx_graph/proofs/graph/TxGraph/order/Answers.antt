@@ -27,16 +27,14 @@ returns-clause-step g c =
 pub returns-clause-best : goal.returns-clause-best
 returns-clause-best g c =
     let kept = kept_of (64 * g.row.W) c.self.inside.begun c.self.inside.levels in
-    subst (λ (parts : List Part). (state : State) → StandsFor c.args.self.now state → IsBestOrder state c.args.level parts) (sym (returns-clause-parts g c))
-    (subst (λ (k : Kept). (state : State) → StandsFor k state → IsBestOrder state c.args.level (level_at k.levels c.args.level).parts) c.self.view_is
-    (best_order kept c.args.level (within_view kept c.args.self.now c.args.level c.self.view_is c.requires.within) c.parts.ensures.best))
-
-pub returns-clause-minimal : goal.returns-clause-minimal
-returns-clause-minimal g c =
-    let kept = kept_of (64 * g.row.W) c.self.inside.begun c.self.inside.levels in
-    subst (λ (parts : List Part). (state : State) → StandsFor c.args.self.now state → AreMinimalIn state c.args.level parts) (sym (returns-clause-parts g c))
-    (subst (λ (k : Kept). (state : State) → StandsFor k state → AreMinimalIn state c.args.level (level_at k.levels c.args.level).parts) c.self.view_is
-    (none_cut kept c.args.level c.parts.ensures.best))
+    subst (λ (parts : List Part). (state : State) → StandsFor c.args.self.now state → IsBestOrder state c.args.level parts × AreMinimalIn state c.args.level parts)
+    (sym (returns-clause-parts g c))
+    (subst (λ (k : Kept). (state : State) → StandsFor k state → IsBestOrder state c.args.level (level_at k.levels c.args.level).parts
+    × AreMinimalIn state c.args.level (level_at k.levels c.args.level).parts) c.self.view_is
+    (λ state stands. (
+      best_order kept c.args.level (within_view kept c.args.self.now c.args.level c.self.view_is c.requires.within) c.parts.ensures.best state stands,
+      none_cut kept c.args.level c.parts.ensures.best state stands,
+    )))
 
 pub returns-clause-names : goal.returns-clause-names
 returns-clause-names g c =

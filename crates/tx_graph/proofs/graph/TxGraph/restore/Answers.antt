@@ -163,11 +163,13 @@ returns-clause-restores g c =
     let room : length live.0 + length txs ≤ old.levels.limits.total =
     is_room (length live.0 + length txs) old.levels.limits.total _ (c.is_past.ensures (length live.0) counts) c.if-is_past.false in
     let small = c.in_default.ensures.small refl in
-    let done = c.in_ok-restore.ensures in
-    subst (λ (k : Kept). Leads k (kept_of (64 * g.row.W) true c.restore.new.self) (RestoresSet txs pairs)) c.self.view_is
-    (leads old txs pairs may small alone c.in_default.ensures.first (length live.0) counts room (kept_of (64 * g.row.W) true c.restore.new.self)
-    (ap (λ (l : Levels). l.limits) done.restored.1) refl refl (ap (λ (l : Levels). l.staging) done.restored.1) done.restored.0 done.row
-    c.restore.ensures.kept.0)
+    let done = c.in_ok-restore.ensures in (
+      subst (λ (k : Kept). Leads k (kept_of (64 * g.row.W) true c.restore.new.self) (RestoresSet txs pairs)) c.self.view_is
+          (leads old txs pairs may small alone c.in_default.ensures.first (length live.0) counts room (kept_of (64 * g.row.W) true c.restore.new.self)
+          (ap (λ (l : Levels). l.limits) done.restored.1) refl refl (ap (λ (l : Levels). l.staging) done.restored.1) done.restored.0 done.row
+          c.restore.ensures.kept.0),
+      ap (λ (l : Levels). l.issued) done.restored.1 ∙ ap (λ (k : Kept). k.levels.issued + length txs) c.self.view_is,
+    )
 
 pub returns-clause-row : goal.returns-clause-row
 returns-clause-row g c =
@@ -187,10 +189,6 @@ returns-clause-row g c =
 
 pub returns-clause-stays : goal.returns-clause-stays
 returns-clause-stays g c = subst (λ (k : Kept). AllStay k.levels c.restore.new.self) c.self.view_is c.restore.ensures.kept.1
-
-pub returns-clause-additions : goal.returns-clause-additions
-returns-clause-additions g c =
-    ap (λ (l : Levels). l.issued) c.in_ok-restore.ensures.restored.1 ∙ ap (λ (k : Kept). k.levels.issued + length c.args.names.now) c.self.view_is
 
 pub returns-clause-steps : goal.returns-clause-steps
 returns-clause-steps g c =

@@ -1,6 +1,0 @@
-use Rattle.std.proofs.Common.{◌≡◌, length}
-use Rattle.certificate.proofs.Links.{AreLinked}
-use Rattle.certificate.proofs.chains.linked.Given as goal
-
-abbrev pub invariant-loop-at : goal.invariant-loop-at
-invariant-loop-at l = (length l.last.items ≡ l.count) × AreLinked l.pairs l.at l.last.items l.before.items

@@ -1,0 +1,2 @@
+mod Linking
+pub mod Placing

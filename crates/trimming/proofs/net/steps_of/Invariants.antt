@@ -1,7 +1,0 @@
-use Rattle.std.proofs.Common.{take, nat_eq}
-use Rattle.std.specs.HashMap as hash
-use Rattle.links.specs.Places.{AreSteps}
-use Rattle.trimming.proofs.net.steps_of.Given as goal
-
-abbrev pub invariant-loop-pair : goal.invariant-loop-pair
-invariant-loop-pair l = AreSteps (hash.get nat_eq l.places) (take l.pair-index l.pairs) l.steps.items
