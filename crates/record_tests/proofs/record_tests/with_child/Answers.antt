@@ -9,8 +9,8 @@ use Rattle.record_tests.proofs.record_tests.with_child.Goals as goal
 only : (x y : ℕ) → Contains (x ∷ []) y → x ≡ y
 only x y here = elim (Contains-cases x y [] here) [ inl same ↦ same | inr later ↦ absurd (none_in_empty y later) ]
 
-pub joined-requires : goal.joined-requires
-joined-requires g c =
+pub joined-joined-requires : goal.joined-joined-requires
+joined-joined-requires g c =
     let few : length c.names.result.now < 100 = search rules in
     let there : c.stands_in.result ≡ true = search rules in
     let absent : c.stands_in-2.result ≡ false = search rules in
